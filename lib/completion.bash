@@ -65,13 +65,13 @@ _idltool() {
             ;;
         diff)
             case $before in
-                -I | --old-I | --new-I) _idl_directories "$word" ;;
+                -I | --old | --old-I | --new-I) _idl_directories "$word" ;;
                 -D | -U) ;;
                 --fail-on) mapfile -t COMPREPLY < <(compgen -W 'never wire client servant names new' -- "$word") ;;
                 --format) mapfile -t COMPREPLY < <(compgen -W 'text json' -- "$word") ;;
                 *)
                     case $word in
-                        -*) mapfile -t COMPREPLY < <(compgen -W '-D -U -I --old-I --new-I --fail-on --format --help' -- "$word") ;;
+                        -*) mapfile -t COMPREPLY < <(compgen -W '-D -U -I --old --old-I --new-I --fail-on --format --help' -- "$word") ;;
                         *) _idl_files "$word" ;;
                     esac
                     ;;

@@ -1,11 +1,16 @@
 -- As many turns are needed as entities are declared and bases named; and where additions leave which answers.
-use Rattle.std.proofs.Common.{◌≡◌, ◌++◌, ◌+◌, ◌∙◌, ℕ, suc, Bool, true, false, cond, List, [], ◌∷◌, ap, refl, length, length-append, arith}
+use Rattle.std.proofs.Common.{◌≡◌, ◌++◌, ◌+◌, ◌∙◌, ℕ, suc, Bool, true, false, cond, List, [], ◌∷◌, None, Option, Some, ap, fold, map, refl, length, length-append, arith}
+use Rattle.std.specs.Map.{lookup}
+use Rattle.std.specs.Option.{option_or}
 use Rattle.std.specs.Prelude.{flat_map}
 use Rattle.idl_entity.specs.Entity.{is_operation}
-use Rattle.idl_env.specs.Facts.{UnitFacts, answer_of, key_of, operations_among}
+use Rattle.idl_env.specs.Facts.{UnitFacts, addition_at, answer_of, entity_in, entity_key, gathered, joined, key_of, operations_among, operations_of, over}
 use Rattle.idl_env.specs.Turns.{bases_among, bases_named, declared_among, declared_named, turns_among, turns_for}
 use Rattle.idl_env.specs.declared.additions.addition.Addition.{Addition}
 use Rattle.idl_env.specs.declared.additions.addition.Addition.TheVariants.{Appears, Declares, Identifies, TypePrefixes, Uses, UsesFurther}
+use Rattle.idl_env.specs.declared.answering.answer.Answer.{Answer}
+use Rattle.idl_env.specs.declared.keys.key.Key.{Key}
+use Rattle.idl_env.specs.keys.Key.{key_eq}
 use Rattle.idl_plain.specs.Additions.{left_by, named_by, operation_by}
 
 abbrev named : List Addition → List (List (List ℕ))
@@ -43,13 +48,31 @@ keys-told (Appears path prefix) = refl
 keys-told (Identifies path fixed) = refl
 keys-told (TypePrefixes path text) = refl
 
-pub answers-told : (a : Addition) → answer_of a ≡ (left_by a).1
+answers-told : (a : Addition) → answer_of a ≡ (left_by a).1
 answers-told (Declares e) = refl
 answers-told (Uses n path body) = refl
 answers-told (UsesFurther n path further) = refl
 answers-told (Appears path prefix) = refl
 answers-told (Identifies path fixed) = refl
 answers-told (TypePrefixes path text) = refl
+
+-- the answer of the first addition at a key, or else of those behind it
+over-by : (b : Bool) (a : Addition) (later : Option Addition) (there : Option Answer) (before : Option Answer)
+    → elim later [ None ↦ before | Some x ↦ Some (answer_of x) ] ≡ option_or there before
+    → elim (cond b (Some a) later) [ None ↦ before | Some x ↦ Some (answer_of x) ] ≡ option_or (cond b (Some (answer_of a)) there) before
+over-by true a later there before h = refl
+over-by false a later there before h = h
+
+pub answers-over : (additions : List Addition) (k : Key) (before : Option Answer) → over additions k before ≡ option_or (lookup (key_eq k) (map left_by additions)) before
+answers-over [] k before = refl
+answers-over (a ∷ additions) k before =
+    over-by (key_eq k (key_of a)) a (addition_at additions k) (lookup (key_eq k) (map left_by additions)) before (answers-over additions k before)
+    ∙ (λ i. option_or (cond (key_eq k (keys-told a i)) (Some (answers-told a i)) (lookup (key_eq k) (map left_by additions))) before)
+
+pub inherited-told : (answers : Key → Option Answer) (found bases : List (List (List ℕ))) → gathered answers found bases
+    ≡ fold (λ paths b. joined paths (operations_of (entity_in (answers (entity_key b))))) found bases
+inherited-told answers found [] = refl
+inherited-told answers found (b ∷ bases) = inherited-told answers (joined found (operations_of (entity_in (answers (entity_key b))))) bases
 
 one-more : (b : Bool) (p : List (List ℕ)) (paths : List (List (List ℕ))) → cond b (p ∷ paths) paths ≡ cond b (p ∷ []) [] ++ paths
 one-more true p paths = refl

@@ -36,7 +36,7 @@ untrue h = cc
 
 module _ {V : Type 0} where
   -- a test that all rows pass holds of a word and of what stands there for it
-  passed : (test : List ℕ × V → Bool) (table : List (List ℕ × V)) (t : List ℕ) (v : V) → list_all test table ≡ true → value_of table t ≡ Some v → test (t, v) ≡ true
+  pub passed : (test : List ℕ × V → Bool) (table : List (List ℕ × V)) (t : List ℕ) (v : V) → list_all test table ≡ true → value_of table t ≡ Some v → test (t, v) ≡ true
   passed test [] t v all h = absurd (no-some v h)
   passed test (row ∷ table) t v all h =
       let both = and_parts (test row) (list_all test table) all in

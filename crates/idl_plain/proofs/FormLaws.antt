@@ -1,12 +1,17 @@
--- A test of one form holds of that alone.
-use Rattle.std.proofs.Common.{◌≡◌, ◌⊎◌, ℕ, zero, suc, ℤ, pos, negsuc, true, List, [], ◌∷◌, inl, inr, refl, ap}
+-- A test of one form holds of that alone, and of a beginning where a text begins so.
+use Rattle.std.proofs.Common.{◌≡◌, ◌∙◌, ◌⊎◌, ◌&&◌, ℕ, zero, suc, ℤ, pos, negsuc, Bool, false, true, List, [], ◌∷◌, codes, inl, inr, nat_eq, not, refl, ap}
+use Rattle.std.specs.Cmp.{nat_eq_equiv}
+use Rattle.std.specs.List.{list_any, starts_with}
 use Rattle.std.specs.Prelude.{◌↔◌}
+use Rattle.idl_check.specs.tables.Rules.{has_id, is_type}
 use Rattle.idl_check.specs.told.Bodies.{is_nothing as raises_none}
 use Rattle.idl_check.specs.walk.Placing.{is_module}
-use Rattle.idl_entity.specs.Kind.{has_bases}
+use Rattle.idl_entity.specs.Kind.{has_bases, is_scope, kind_eq}
+use Rattle.idl_entity.specs.declared.kind.Kind.{Kind}
+use Rattle.idl_entity.specs.declared.kind.Kind.TheVariants as kind
 use Rattle.idl_entity.specs.declared.kind.Stage.{Stage}
 use Rattle.idl_entity.specs.declared.kind.Stage.TheVariants.{Ahead, Begun, Complete, Open}
-use Rattle.idl_lex.specs.bytes.Context.{is_include, is_nothing}
+use Rattle.idl_lex.specs.bytes.Context.{is_include, is_newline, is_nothing}
 use Rattle.idl_lex.specs.bytes.Piece.{is_empty}
 use Rattle.idl_lex.specs.declared.bytes.context.Beginning.{Beginning}
 use Rattle.idl_lex.specs.declared.bytes.context.Beginning.TheVariants.{Include, Nothing}
@@ -15,10 +20,13 @@ use Rattle.idl_lex.specs.declared.kinds.kind.Defect.TheVariants.{BadEscape}
 use Rattle.idl_lex.specs.declared.kinds.kind.TokenKind.{TokenKind}
 use Rattle.idl_lex.specs.declared.kinds.kind.TokenKind.TheVariants.{HeaderName, Miscased, Punctuation}
 use Rattle.idl_lex.specs.declared.kinds.mark.Mark.TheVariants.{ColonColon}
+use Rattle.idl_lex.specs.kinds.Kind.{begins_block}
 use Rattle.idl_lex.specs.tokens.Tokens.{Token}
 use Rattle.idl_macro.specs.conditions.Arithmetic.{is_zero}
 use Rattle.idl_plain.proofs.ConditionLaws.{untrue}
-use Rattle.idl_prep.specs.Include.{is_bad_escape, is_header_kind}
+use Rattle.idl_prep.specs.Include.{begins_quoted, is_bad_escape, is_header_kind}
+use Rattle.idl_source.specs.names.Path.{is_rooted}
+use Rattle.idl_source.specs.texts.Line.{newline}
 use Rattle.idl_text.specs.Tree.{is_else, is_endif}
 use Rattle.idl_text.specs.declared.groups.kind.DirectiveKind.{DirectiveKind}
 use Rattle.idl_text.specs.declared.groups.kind.DirectiveKind.TheVariants as directive
@@ -102,3 +110,83 @@ bases-told Open = (λ h. inl refl, λ e. refl)
 bases-told Complete = (λ h. inr refl, λ e. refl)
 bases-told Ahead = (λ h. absurd (untrue h), of-two Ahead)
 bases-told Begun = (λ h. absurd (untrue h), of-two Begun)
+
+-- ---- beginnings
+
+ended : (b : Bool) → b ≡ b && true
+ended true = refl
+ended false = refl
+
+-- a first byte, whichever of the two is asked
+first-told : (b n : ℕ) → nat_eq b n ≡ nat_eq n b && true
+first-told b n = nat_eq_equiv.symm b n ∙ ended (nat_eq n b)
+
+pub rooted-told : (bytes : List ℕ) → is_rooted bytes ≡ starts_with nat_eq bytes (codes "/")
+rooted-told [] = refl
+rooted-told (b ∷ bytes) = first-told b 47
+
+pub quoted-told : (bytes : List ℕ) → begins_quoted bytes ≡ starts_with nat_eq bytes (34 ∷ [])
+quoted-told [] = refl
+quoted-told (b ∷ bytes) = first-told b 34
+
+pub ended-told : (bytes : List ℕ) → is_newline bytes ≡ starts_with nat_eq bytes (newline ∷ [])
+ended-told [] = refl
+ended-told (b ∷ bytes) = first-told b newline
+
+pub blocks-told : (bytes : List ℕ) → begins_block bytes ≡ starts_with nat_eq bytes (codes "/*")
+blocks-told [] = refl
+blocks-told (b ∷ []) = by (nat_eq b 47) (nat_eq 47 b) (nat_eq_equiv.symm b 47)
+  where
+    by : (x y : Bool) → x ≡ y → x && false ≡ y && false
+    by x y e = ap (λ z. z && false) e
+blocks-told (b ∷ c ∷ bytes) = λ i. nat_eq_equiv.symm b 47 i && first-told c 42 i
+
+-- ---- kinds
+
+pub kinds-types : (k : Kind) → is_type k ≡ list_any (kind_eq k) (kind.Interface ∷ kind.Structure ∷ kind.Union ∷ kind.Enumeration ∷ kind.Alias ∷ kind.Native ∷ [])
+kinds-types kind.Module = refl
+kinds-types kind.Interface = refl
+kinds-types kind.Structure = refl
+kinds-types kind.Union = refl
+kinds-types kind.Exception = refl
+kinds-types kind.Enumeration = refl
+kinds-types kind.Enumerator = refl
+kinds-types kind.Alias = refl
+kinds-types kind.Native = refl
+kinds-types kind.Constant = refl
+kinds-types kind.Attribute = refl
+kinds-types kind.Operation = refl
+kinds-types kind.Parameter = refl
+kinds-types kind.Member = refl
+
+pub kinds-scopes : (k : Kind) → is_scope k ≡ list_any (kind_eq k) (kind.Module ∷ kind.Interface ∷ kind.Structure ∷ kind.Union ∷ kind.Exception ∷ [])
+kinds-scopes kind.Module = refl
+kinds-scopes kind.Interface = refl
+kinds-scopes kind.Structure = refl
+kinds-scopes kind.Union = refl
+kinds-scopes kind.Exception = refl
+kinds-scopes kind.Enumeration = refl
+kinds-scopes kind.Enumerator = refl
+kinds-scopes kind.Alias = refl
+kinds-scopes kind.Native = refl
+kinds-scopes kind.Constant = refl
+kinds-scopes kind.Attribute = refl
+kinds-scopes kind.Operation = refl
+kinds-scopes kind.Parameter = refl
+kinds-scopes kind.Member = refl
+
+pub kinds-ids : (k : Kind) → has_id k ≡ not (list_any (kind_eq k) (kind.Enumerator ∷ kind.Parameter ∷ kind.Member ∷ []))
+kinds-ids kind.Module = refl
+kinds-ids kind.Interface = refl
+kinds-ids kind.Structure = refl
+kinds-ids kind.Union = refl
+kinds-ids kind.Exception = refl
+kinds-ids kind.Enumeration = refl
+kinds-ids kind.Enumerator = refl
+kinds-ids kind.Alias = refl
+kinds-ids kind.Native = refl
+kinds-ids kind.Constant = refl
+kinds-ids kind.Attribute = refl
+kinds-ids kind.Operation = refl
+kinds-ids kind.Parameter = refl
+kinds-ids kind.Member = refl

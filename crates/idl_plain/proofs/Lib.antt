@@ -1,8 +1,15 @@
 mod AdditionLaws
 mod AnswerLaws
+mod CodeLaws
 mod ConditionLaws
+mod DirectiveLaws
 mod EndingLaws
 mod FormLaws
+mod OutwardLaws
+mod PairLaws
 mod PragmaLaws
+mod RankLaws
 mod SameLaws
+mod SpellingLaws
 mod TableLaws
+mod VisitLaws

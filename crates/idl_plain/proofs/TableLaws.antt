@@ -3,7 +3,9 @@ use Rattle.std.proofs.Common.{◌≡◌, ◌∙◌, ◌+◌, ℕ, Bool, true, fa
 use Rattle.std.specs.Prelude.{if◌then◌else◌, is_some}
 use Rattle.idl_check.specs.tables.Declaring.{Written, entity_of}
 use Rattle.idl_check.specs.tables.Using.{Bases, last_after, own_after, used_table, with_uses}
+use Rattle.idl_check.specs.told.Types.{element_of}
 use Rattle.idl_check.specs.walk.Walk.{Walk, used_after, with_scope}
+use Rattle.idl_entity.specs.declared.data_type.Element.TheVariants.{Constants}
 use Rattle.idl_entity.specs.declared.entity.Entity.{Entity}
 use Rattle.idl_env.specs.Facts.{World, after_step}
 use Rattle.idl_env.specs.declared.additions.addition.Step.{Step}
@@ -31,14 +33,16 @@ use Rattle.idl_plain.specs.Expression.{linked, read}
 use Rattle.idl_plain.specs.Operators.{before as at_one, between}
 use Rattle.idl_plain.specs.Steps.{stepped}
 use Rattle.idl_plain.specs.Tokens.{codes_behind, is_mixed, is_refused}
-use Rattle.idl_plain.specs.Types.{of_integers, of_sizes, of_types, of_words}
+use Rattle.idl_plain.specs.Types.{of_basics, of_integers, of_sizes, of_types, of_words}
 use Rattle.idl_plain.specs.Used.{rules_of_used, walk_behind}
 use Rattle.idl_repo.specs.TypeCode.{integer_word}
 use Rattle.idl_scope.specs.declared.found.Found.{Found}
-use Rattle.idl_tree.specs.DataType.{sized_word, spell_discrete, spell_sign, spell_size}
+use Rattle.idl_tree.specs.DataType.{sized_word, spell_basic, spell_discrete, spell_sign, spell_size}
 use Rattle.idl_tree.specs.Lexeme.{Word}
 use Rattle.idl_tree.specs.NameParts.{last_at}
 use Rattle.idl_tree.specs.declared.name.ScopedName.{ScopedName}
+use Rattle.idl_tree.specs.declared.declarations.data_type.BasicType.{BasicType}
+use Rattle.idl_tree.specs.declared.declarations.data_type.BasicType.TheVariants as basic
 use Rattle.idl_tree.specs.declared.declarations.data_type.DiscreteType.{DiscreteType}
 use Rattle.idl_tree.specs.declared.declarations.data_type.DiscreteType.TheVariants as discrete
 use Rattle.idl_tree.specs.declared.declarations.data_type.IntegerSize.{IntegerSize}
@@ -106,6 +110,22 @@ types-told discrete.Char = refl
 types-told discrete.WideChar = refl
 types-told discrete.Boolean = refl
 types-told discrete.Octet = refl
+
+pub basics-spelled : (t : BasicType) → spell_basic t ≡ (of_basics t).0
+basics-spelled (basic.Discrete d) = types-spelled d
+basics-spelled basic.Float = refl
+basics-spelled basic.Double = refl
+basics-spelled basic.LongDouble = refl
+basics-spelled basic.Any = refl
+basics-spelled basic.Object = refl
+
+pub basics-told : (t : BasicType) → element_of t ≡ (of_basics t).1
+basics-told (basic.Discrete d) = ap Constants (types-told d)
+basics-told basic.Float = refl
+basics-told basic.Double = refl
+basics-told basic.LongDouble = refl
+basics-told basic.Any = refl
+basics-told basic.Object = refl
 
 -- ---- declared and used names
 

@@ -1,8 +1,13 @@
 -- The types that are spelled by keywords and that constants may have: a line for each.
 use Rattle.std.specs.Prelude.{ℕ, Bool, true, false, List, [], ◌∷◌, codes}
+use Rattle.idl_entity.specs.declared.data_type.Element.{Element}
+use Rattle.idl_entity.specs.declared.data_type.Element.TheVariants.{Constants, Unvalued}
+use Rattle.idl_entity.specs.declared.unvalued.Unvalued.TheVariants as unvalued
 use Rattle.idl_lex.specs.declared.kinds.keyword.Keyword.{Keyword}
 use Rattle.idl_lex.specs.declared.kinds.keyword.Keyword.TheVariants as word
 use Rattle.idl_tree.specs.Lexeme.{Lexemes, Word}
+use Rattle.idl_tree.specs.declared.declarations.data_type.BasicType.{BasicType}
+use Rattle.idl_tree.specs.declared.declarations.data_type.BasicType.TheVariants as basic
 use Rattle.idl_tree.specs.declared.declarations.data_type.DiscreteType.{DiscreteType}
 use Rattle.idl_tree.specs.declared.declarations.data_type.DiscreteType.TheVariants as discrete
 use Rattle.idl_tree.specs.declared.declarations.data_type.IntegerSize.{IntegerSize}
@@ -56,3 +61,12 @@ of_types discrete.Char = (Word word.Char ∷ [], target.Character)
 of_types discrete.WideChar = (Word word.Wchar ∷ [], target.WideCharacter)
 of_types discrete.Boolean = (Word word.Boolean ∷ [], target.Boolean)
 of_types discrete.Octet = (Word word.Octet ∷ [], target.Integer integer.Octet)
+
+-- any type of keywords that isn't a string: how it is spelled, and what it is of
+abbrev pub of_basics : BasicType → Lexemes × Element
+of_basics (basic.Discrete d) = ((of_types d).0, Constants (of_types d).1)
+of_basics basic.Float = (Word word.Float ∷ [], Unvalued unvalued.Float)
+of_basics basic.Double = (Word word.Double ∷ [], Unvalued unvalued.Double)
+of_basics basic.LongDouble = (Word word.Long ∷ Word word.Double ∷ [], Unvalued unvalued.LongDouble)
+of_basics basic.Any = (Word word.Any ∷ [], Unvalued unvalued.Any)
+of_basics basic.Object = (Word word.Object ∷ [], Unvalued unvalued.Object)

@@ -1,12 +1,16 @@
-//! The laws that a test of one form holds of that alone.
+//! The laws that a test of one form holds of that alone, and of a beginning where a text begins so.
 
-ghost use Rattle.std.specs.Prelude.{◌≡◌, ◌↔◌, ◌⊎◌, ℕ, ℤ, [], List, pos, true};
+ghost use Rattle.std.specs.Prelude.{◌≡◌, ◌∷◌, ◌↔◌, ◌⊎◌, ℕ, ℤ, [], List, codes, nat_eq, not, pos, true};
+ghost use Rattle.std.specs.List.{list_any, starts_with};
+ghost use Rattle.idl_check.specs.tables.Rules.{has_id, is_type};
 ghost use Rattle.idl_check.specs.told.Bodies.{is_nothing as raises_none};
 ghost use Rattle.idl_check.specs.walk.Placing.{is_module};
-ghost use Rattle.idl_entity.specs.Kind.{has_bases};
+ghost use Rattle.idl_entity.specs.Kind.{has_bases, is_scope, kind_eq};
+ghost use Rattle.idl_entity.specs.declared.kind.Kind.{Kind};
+ghost use Rattle.idl_entity.specs.declared.kind.Kind.TheVariants as kind;
 ghost use Rattle.idl_entity.specs.declared.kind.Stage.{Stage};
 ghost use Rattle.idl_entity.specs.declared.kind.Stage.TheVariants.{Complete, Open};
-ghost use Rattle.idl_lex.specs.bytes.Context.{is_include, is_nothing};
+ghost use Rattle.idl_lex.specs.bytes.Context.{is_include, is_newline, is_nothing};
 ghost use Rattle.idl_lex.specs.bytes.Piece.{is_empty};
 ghost use Rattle.idl_lex.specs.declared.bytes.context.Beginning.{Beginning};
 ghost use Rattle.idl_lex.specs.declared.bytes.context.Beginning.TheVariants.{Include, Nothing};
@@ -15,9 +19,12 @@ ghost use Rattle.idl_lex.specs.declared.kinds.kind.Defect.TheVariants.{BadEscape
 ghost use Rattle.idl_lex.specs.declared.kinds.kind.TokenKind.{TokenKind};
 ghost use Rattle.idl_lex.specs.declared.kinds.kind.TokenKind.TheVariants.{HeaderName, Miscased, Punctuation};
 ghost use Rattle.idl_lex.specs.declared.kinds.mark.Mark.TheVariants.{ColonColon};
+ghost use Rattle.idl_lex.specs.kinds.Kind.{begins_block};
 ghost use Rattle.idl_lex.specs.tokens.Tokens.{Token};
 ghost use Rattle.idl_macro.specs.conditions.Arithmetic.{is_zero};
-ghost use Rattle.idl_prep.specs.Include.{is_bad_escape, is_header_kind};
+ghost use Rattle.idl_prep.specs.Include.{begins_quoted, is_bad_escape, is_header_kind};
+ghost use Rattle.idl_source.specs.names.Path.{is_rooted};
+ghost use Rattle.idl_source.specs.texts.Line.{newline};
 ghost use Rattle.idl_text.specs.Tree.{is_else, is_endif};
 ghost use Rattle.idl_text.specs.declared.groups.kind.DirectiveKind.{DirectiveKind};
 ghost use Rattle.idl_text.specs.declared.groups.kind.DirectiveKind.TheVariants as directive;
@@ -46,4 +53,22 @@ pub fn tests()
     ensures ends { (xs : List Token) → (ends_text xs ≡ true) ↔ (xs ≡ []) }
     ensures raised { (xs : List (List (List ℕ))) → (raises_none xs ≡ true) ↔ (xs ≡ []) }
     ensures bases { (s : Stage) → (has_bases s ≡ true) ↔ ((s ≡ Open) ⊎ (s ≡ Complete)) }
+{}
+
+/// Each of these tests holds where the bytes begin so.
+pub fn beginnings()
+    ensures rooted { (bytes : List ℕ) → is_rooted bytes ≡ starts_with nat_eq bytes (codes "/") }
+    ensures quoted { (bytes : List ℕ) → begins_quoted bytes ≡ starts_with nat_eq bytes (34 ∷ []) }
+    ensures ended { (bytes : List ℕ) → is_newline bytes ≡ starts_with nat_eq bytes (newline ∷ []) }
+    ensures blocks { (bytes : List ℕ) → begins_block bytes ≡ starts_with nat_eq bytes (codes "/*") }
+{}
+
+/// These kinds of names are types, these are scopes, and all but these have ids.
+pub fn kinds()
+    ensures types { (k : Kind) → is_type k ≡ list_any (kind_eq k)
+        (kind.Interface ∷ kind.Structure ∷ kind.Union ∷ kind.Enumeration ∷ kind.Alias ∷ kind.Native ∷ []) }
+    ensures scopes { (k : Kind) → is_scope k ≡ list_any (kind_eq k)
+        (kind.Module ∷ kind.Interface ∷ kind.Structure ∷ kind.Union ∷ kind.Exception ∷ []) }
+    ensures ids { (k : Kind) → has_id k
+        ≡ not (list_any (kind_eq k) (kind.Enumerator ∷ kind.Parameter ∷ kind.Member ∷ [])) }
 {}

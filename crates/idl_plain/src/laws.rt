@@ -2,15 +2,18 @@
 //!
 //! Each function does nothing: it carries its laws as clauses, which hold of any values.
 
-ghost use Rattle.std.specs.Prelude.{◌≡◌, ◌↔◌, ℕ, ℤ, List, Option, None, Some, flat_map, length, map, true, if◌then◌else◌};
+ghost use Rattle.std.specs.Prelude.{◌≡◌, ◌↔◌, ℕ, ℤ, List, Option, None, Some, flat_map, fold, length, map, true, if◌then◌else◌};
+ghost use Rattle.std.specs.Map.{lookup};
+ghost use Rattle.std.specs.Option.{option_or};
 ghost use Rattle.idl_check.specs.walk.Placing.{faulty_step, opened_kind};
 ghost use Rattle.idl_entity.specs.Kind.{kind_eq, stage_eq};
 ghost use Rattle.idl_entity.specs.declared.kind.Kind.{Kind};
 ghost use Rattle.idl_entity.specs.declared.kind.Stage.{Stage};
-ghost use Rattle.idl_env.specs.Facts.{UnitFacts, answer_of, key_of, operations_among};
+ghost use Rattle.idl_env.specs.Facts.{UnitFacts, entity_in, entity_key, gathered, joined, key_of, operations_among, operations_of, over};
 ghost use Rattle.idl_env.specs.Turns.{turns_among, turns_for};
 ghost use Rattle.idl_env.specs.declared.additions.addition.Addition.{Addition};
 ghost use Rattle.idl_env.specs.declared.additions.addition.Step.TheVariants.{Closes, OpensNameless, Stays};
+ghost use Rattle.idl_env.specs.declared.answering.answer.Answer.{Answer};
 ghost use Rattle.idl_env.specs.declared.keys.key.Key.{Key};
 ghost use Rattle.idl_env.specs.keys.Key.{key_eq};
 ghost use Rattle.idl_event.specs.Items.{event_of};
@@ -70,16 +73,21 @@ pub fn sameness()
     ensures roots { (k other : RootKey) → (root_key_eq k other ≡ true) ↔ (k ≡ other) }
 {}
 
-/// A look-up needs as many turns as entities are declared and bases named. Of each addition one line tells the key and the answer.
+/// A look-up needs as many turns as entities are declared and bases named. Of each addition one line tells the key and the answer; and
+/// operations are inherited from one base after another.
 pub fn additions()
     ensures turns { (additions : List Addition) → turns_among additions
         ≡ length (flat_map named_by additions) }
     ensures needed { (facts : List UnitFacts) → turns_for facts
         ≡ length (flat_map (λ f. flat_map named_by f.additions) facts) }
     ensures keys { (a : Addition) → key_of a ≡ (left_by a).0 }
-    ensures answers { (a : Addition) → answer_of a ≡ (left_by a).1 }
+    ensures answers { (additions : List Addition) (k : Key) (before : Option Answer)
+        → over additions k before ≡ option_or (lookup (key_eq k) (map left_by additions)) before }
     ensures operations { (additions : List Addition) → operations_among additions
         ≡ flat_map operation_by additions }
+    ensures inherited { (answers : Key → Option Answer) (found bases : List (List (List ℕ)))
+        → gathered answers found bases
+        ≡ fold (λ paths b. joined paths (operations_of (entity_in (answers (entity_key b))))) found bases }
 {}
 
 /// An answer tells a file's lines, or the tokens of a macro's body, and an item an event, in one form alone.

@@ -5,12 +5,21 @@
 //! It stands apart since none of the code stands on it.
 #![tactic(auto)]
 
+mod directives;
 mod forms;
 mod laws;
+mod lexemes;
+mod paths;
 mod tables;
+mod visits;
 
-pub use forms::tests;
+pub use directives::{files, macros};
+pub use forms::{beginnings, kinds, tests};
 pub use laws::{additions, answers, conditions, pragmas, sameness, units};
+pub use lexemes::spellings;
+pub use paths::outward;
 pub use tables::{
-    allowances, declarations, expressions, numbers, operators, steps, tokens, types, uses,
+    allowances, codes, declarations, expressions, literals, marks, numbers, operators, ranks,
+    steps, tokens, types, uses,
 };
+pub use visits::sites;

@@ -23,7 +23,8 @@ use Rattle.idl_inputs.specs.Bank.{bank_of}
 use Rattle.idl_driver.specs.idl_sources.Compile.{compiled_root}
 use Rattle.idl_inputs.specs.Project.{Inputs}
 use Rattle.idl_driver.specs.idl_sources.declared.compile.CompiledRoot.{CompiledRoot}
-use Rattle.idl_tool.specs.Checked.{AreReported, AreToldOf, Entry, Explained, Explains, IsTold, IsToldOf, Told, all_of, entry_in, in_order, report_in, seconds_in, with_entry}
+use Rattle.idl_finding.specs.declared.finding.Finding.{Finding}
+use Rattle.idl_tool.specs.Checked.{AreReported, AreToldOf, Entry, Explained, Explains, IsTold, IsToldOf, Told, all_of, entry_in, in_order, is_of, report_in, seconds_in, with_entry}
 use Rattle.idl_tool.proofs.JsonLemmas.{zip-push}
 
 pub reported-none : (files : Texts) (before : List Entry) → AreReported files [] before before
@@ -115,30 +116,16 @@ pairs-next xs ys i x y within same is at =
     take_more (zip xs ys) i (x, y) (omega (arith, length-zip xs ys, within, within-ys))
     ∙ ap (λ p. take i (zip xs ys) ++ p ∷ []) (get_or-zip xs ys i (x, y) within within-ys ∙ ap₂ pair (sym is) (sym at))
 
+-- those of a sort among them, and one more
+pub those-next : (are : Bool) (fs : List Finding) (rs : List (List Related)) (i : ℕ) (f : Finding) (r : List Related) (b : Bool) → i < length fs → length rs ≡ length fs
+    → f ≡ get_or fs i f → r ≡ get_or rs i r → is_of are (f, r) ≡ b → filter (is_of are) (take (i + 1) (zip fs rs)) ≡ filter (is_of are) (take i (zip fs rs)) ++ cond b ((f, r) ∷ []) []
+those-next are fs rs i f r b within same is at passes =
+    ap (filter (is_of are)) (pairs-next fs rs i f r within same is at) ∙ filter-append (is_of are) (take i (zip fs rs)) ((f, r) ∷ [])
+    ∙ ap (λ c. filter (is_of are) (take i (zip fs rs)) ++ cond c ((f, r) ∷ []) []) passes
+
 -- all of them
 pub pairs-all : {X Y : Type 0} (xs : List X) (ys : List Y) (i : ℕ) → length ys ≡ length xs → length xs ≤ i → take i (zip xs ys) ≡ zip xs ys
 pairs-all xs ys i same past = take_all i (zip xs ys) (omega (arith, length-zip xs ys, same, past))
-
-kept-next : {X : Type 0} (p : X → Bool) (xs : List X) (i : ℕ) (x : X) → i < length xs → x ≡ get_or xs i x → filter p (take (i + 1) xs) ≡ filter p (take i xs) ++ filter p (x ∷ [])
-kept-next p xs i x within is = ap (filter p) (take_more xs i x within ∙ ap (λ y. take i xs ++ y ∷ []) (sym is)) ∙ filter-append p (take i xs) (x ∷ [])
-
--- what is kept of items and of one more that passes the test
-pub kept-more : {X : Type 0} (p : X → Bool) (xs : List X) (i : ℕ) (x : X) → i < length xs → x ≡ get_or xs i x → p x ≡ true → filter p (take (i + 1) xs) ≡ filter p (take i xs) ++ x ∷ []
-kept-more p xs i x within is passes = kept-next p xs i x within is ∙ ap (λ b. filter p (take i xs) ++ cond b (x ∷ []) []) passes
-
--- or of one that doesn't
-pub kept-same : {X : Type 0} (p : X → Bool) (xs : List X) (i : ℕ) (x : X) → i < length xs → x ≡ get_or xs i x → p x ≡ false → filter p (take (i + 1) xs) ≡ filter p (take i xs)
-kept-same p xs i x within is fails =
-    kept-next p xs i x within is ∙ ap (λ b. filter p (take i xs) ++ cond b (x ∷ []) []) fails ∙ append-nil (filter p (take i xs))
-
--- what is kept by a test is kept of what is made of it
-pub map-filter : {X Y : Type 0} (f : X → Y) (p : Y → Bool) (xs : List X) → map f (filter (λ x. p (f x)) xs) ≡ filter p (map f xs)
-map-filter f p [] = refl
-map-filter f p (x ∷ xs) = by (p (f x)) (map-filter f p xs)
-  where
-    by : (b : Bool) → map f (filter (λ x. p (f x)) xs) ≡ filter p (map f xs) → map f (cond b (x ∷ filter (λ x. p (f x)) xs) (filter (λ x. p (f x)) xs)) ≡ cond b (f x ∷ filter p (map f xs)) (filter p (map f xs))
-    by true rest = ap (λ ys. f x ∷ ys) rest
-    by false rest = rest
 
 -- ---- what is put in once
 

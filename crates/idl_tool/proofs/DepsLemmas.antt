@@ -1,6 +1,6 @@
 -- Rules of roots, one after another.
-use Rattle.std.proofs.Common.{◌≡◌, ◌∙◌, ◌+◌, ◌-◌, ◌<◌, ◌++◌, ◌∷◌, [], ℕ, ◌||◌, All, Bool, IsTrue, List, ap, ap₂, filter, flat_map, get_or, length, map, refl, sym, take, if◌then◌else◌, true, false}
-use Rattle.std.proofs.lemmas.List.{append-nil, take_more}
+use Rattle.std.proofs.Common.{◌≡◌, ◌∙◌, ◌+◌, ◌<◌, ◌≤◌, ◌++◌, ◌∷◌, [], ℕ, ◌||◌, All, Bool, IsTrue, List, ap, ap₂, append_assoc, filter, flat_map, get_or, length, map, refl, sym, take, if◌then◌else◌, true, false}
+use Rattle.std.proofs.lemmas.List.{append-nil, take_all, take_more}
 use Rattle.std.proofs.lemmas.List.Concat.{flat_map-append}
 use Rattle.std.proofs.lemmas.List.Elements.{All-cons, All-filter, All-head, All-nil, All-tail}
 use Rattle.clap.proofs.WalkLemmas.{list_any-map}
@@ -23,6 +23,20 @@ pub flat_map-next : {X Y : Type 0} (f : X → List Y) (xs : List X) (i : ℕ) (x
 flat_map-next f xs i x within is =
     ap (flat_map f) (take_more xs i x within) ∙ flat_map-append f (take i xs) (get_or xs i x ∷ [])
     ∙ ap (λ y. flat_map f (take i xs) ++ flat_map f (y ∷ [])) (sym is) ∙ ap (λ l. flat_map f (take i xs) ++ l) (append-nil (f x))
+
+-- a text behind another one: of none, of one more, and of all
+pub pushed-none : {X Y : Type 0} (f : X → List Y) (xs : List X) (before : List Y) → before ≡ before ++ flat_map f (take 0 xs)
+pushed-none f xs before = sym (append-nil before)
+
+pub pushed-next : {X Y : Type 0} (f : X → List Y) (xs : List X) (i : ℕ) (d : X) (before text whole : List Y) → i < length xs
+    → text ≡ before ++ flat_map f (take i xs) → whole ≡ text ++ f (get_or xs i d) → whole ≡ before ++ flat_map f (take (i + 1) xs)
+pushed-next f xs i d before text whole within so_far put =
+    let one = get_or xs i d in
+    let next = ap (flat_map f) (take_more xs i d within) ∙ flat_map-append f (take i xs) (one ∷ []) ∙ ap (λ l. flat_map f (take i xs) ++ l) (append-nil (f one)) in
+    put ∙ ap (λ t. t ++ f one) so_far ∙ append_assoc before (flat_map f (take i xs)) (f one) ∙ ap (λ t. before ++ t) (sym next)
+
+pub pushed-all : {X Y : Type 0} (f : X → List Y) (xs : List X) (i : ℕ) (before text : List Y) → length xs ≤ i → text ≡ before ++ flat_map f (take i xs) → text ≡ before ++ flat_map f xs
+pushed-all f xs i before text past is = is ∙ ap (λ ys. before ++ flat_map f ys) (take_all i xs past)
 
 pub ending-of : (inputs : Inputs) (roots : List (List ℕ)) (compiled : List CompiledRoot) → compiled ≡ map (compiled_root inputs) roots
     → are_faulty compiled ≡ is_faulty inputs roots

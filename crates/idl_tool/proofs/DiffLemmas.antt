@@ -1,10 +1,9 @@
 -- Two versions, and what is told of them.
-use Rattle.std.proofs.Common.{Bor, MatchOption, ◌≡◌, ◌∙◌, ◌+◌, ◌<◌, ◌≤◌, ◌++◌, ◌&&◌, ◌||◌, ◌∷◌, [], ℕ, Bool, List, None, Option, Some, ap, ap₂, append_assoc, false, flat_map, get_or, if◌then◌else◌, length, map, refl, sym, take, true}
+use Rattle.std.proofs.Common.{Bor, MatchOption, ◌≡◌, ◌∙◌, ◌<◌, ◌≤◌, ◌++◌, ◌&&◌, ◌||◌, ◌∷◌, [], ℕ, Bool, List, None, Option, Some, ap, ap₂, append_assoc, false, if◌then◌else◌, length, map, refl, sym, true}
 use Rattle.std.specs.List.{HoldsAt, slice_get}
 use Rattle.std.specs.Option.{option_copied, option_map}
 use Rattle.std.proofs.lemmas.Bool.{or_parts}
-use Rattle.std.proofs.lemmas.List.{append-nil, take_more}
-use Rattle.std.proofs.lemmas.List.Concat.{flat_map-append}
+use Rattle.std.proofs.lemmas.List.{append-nil}
 use Rattle.std.proofs.lemmas.List.Elements.{All-cons, All-nil}
 use Rattle.std.proofs.lemmas.Option.{slice_get-map, slice_get_past, slice_get_read}
 use Rattle.idl_changes.specs.Chosen.{meets}
@@ -71,15 +70,6 @@ pub sound-none : (faulty failing : Bool) → (if faulty then Failed else if fail
 sound-none true failing is = absurd (cc)
 sound-none false true is = absurd (cc)
 sound-none false false is = refl
-
--- one line more
-pub line-next : (line : Change → List ℕ) (told : List Change) (i : ℕ) (change : Change) (text whole : List ℕ)
-    → i < length told → change ≡ get_or told i change → text ≡ flat_map line (take i told)
-    → whole ≡ text ++ line change → whole ≡ flat_map line (take (i + 1) told)
-line-next line told i change text whole within is so_far put =
-    put ∙ ap₂ (λ (a b : List ℕ). a ++ b) so_far (sym (append-nil (line change)))
-    ∙ sym (flat_map-append line (take i told) (change ∷ []))
-    ∙ ap (flat_map line) (sym (take_more told i change within ∙ ap (λ (c : Change). take i told ++ c ∷ []) (sym is)))
 
 -- a row behind a text, piece by piece
 pub row-next : (text head row whole place grade words : List ℕ) → head ≡ text ++ (place ++ grade) → row ≡ head ++ words → whole ≡ row ++ 10 ∷ []

@@ -5,6 +5,7 @@ mod ExplainLemmas
 mod FailureLemmas
 mod FaultLemmas
 mod JsonLemmas
+mod OnceLemmas
 mod RequestLemmas
 mod RuleLemmas
 mod ShownLemmas

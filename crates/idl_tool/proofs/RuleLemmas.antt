@@ -1,5 +1,5 @@
 -- Rules that are written and read.
-use Rattle.std.proofs.Common.{◌≡◌, ◌∙◌, ℕ, ◌+◌, ◌-◌, List, [], ◌∷◌, ◌++◌, All, Bool, true, false, cond, not, ◌&&◌, refl, sym, ap, append_assoc, arith, codes, flat_map, length, length-append, nat_eq, subst, take, IsTrue}
+use Rattle.std.proofs.Common.{◌≡◌, ◌∙◌, ℕ, ◌-◌, List, [], ◌∷◌, ◌++◌, All, Bool, true, false, cond, not, ◌&&◌, refl, sym, ap, append_assoc, arith, codes, flat_map, length, length-append, nat_eq, subst, take, IsTrue}
 use Rattle.std.specs.List.{list_all, slice_split}
 use Rattle.std.specs.Str.{bytes_eq}
 use Rattle.std.specs.Cmp.Lexicographic.{bytes_decides}

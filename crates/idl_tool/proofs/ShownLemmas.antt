@@ -31,6 +31,6 @@ shown-end is_line text at past =
     ap (shown_text is_line) (nil_from_length (drop at text) (omega (arith, length-drop at text))) ∙ ap (λ ps. shown_pieces is_line ps []) pieces-nil
 
 -- what is behind a text, where there is memory
-pub grown-on_ok : {T E : Type 0} {new : List ℕ} (full left : List ℕ) (r : Result T E) → new ≡ (if is_ok r then full else left) → OnOk r (new ≡ full)
+pub grown-on_ok : {T E X : Type 0} {new : List X} (full left : List X) (r : Result T E) → new ≡ (if is_ok r then full else left) → OnOk r (new ≡ full)
 grown-on_ok full left (Ok x) e = e
 grown-on_ok full left (Err x) e = tt

@@ -1,5 +1,5 @@
 -- What `check` tells of files.
-use Rattle.std.specs.Prelude.{◌≡◌, ◌&&◌, ◌||◌, ◌++◌, ◌∷◌, ℕ, zero, suc, Bool, List, [], All, Contains, Option, None, flat_map, fold, length, map, nat_eq, not, option_and_then, slice_get, if◌then◌else◌}
+use Rattle.std.specs.Prelude.{◌≡◌, ◌&&◌, ◌||◌, ◌++◌, ◌∷◌, ℕ, zero, suc, Bool, List, [], All, Contains, Option, None, false, flat_map, fold, length, map, nat_eq, not, option_and_then, slice_get, true, if◌then◌else◌}
 use Rattle.std.specs.FinMap as finite
 use Rattle.std.specs.List.{AllZip, filter, list_any, zip}
 use Rattle.std.specs.Map.{keys_of}
@@ -94,9 +94,13 @@ IsTold files entries told =
     (explanation : Explanation) × Explains (told, explanation)
     × Contains (keys_of entries) (report_in files (told, explanation))
 
+-- it follows from an error elsewhere, or it doesn't
+abbrev pub is_of : Bool → Told → Bool
+is_of are_following told = if are_following then follows told.1 else not (follows told.1)
+
 -- findings with their second places, those last that follow from an error elsewhere
 abbrev pub in_order : List Told → List Told
-in_order told = filter (λ t. not (follows t.1)) told ++ filter (λ t. follows t.1) told
+in_order told = filter (is_of false) told ++ filter (is_of true) told
 
 -- what is told of a root: all that is found in it, with second places
 abbrev pub IsToldOf : Inputs → List ℕ → List Told → Type 0

@@ -1,7 +1,8 @@
 -- What `diff` tells of two versions of a file.
-use Rattle.std.specs.Prelude.{◌≡◌, ℕ, Bool, ◌||◌, List, [], ◌++◌, codes, flat_map, map, Option, None, Some, slice_get, if◌then◌else◌}
+use Rattle.std.specs.Prelude.{◌≡◌, ℕ, Bool, ◌||◌, List, [], ◌∷◌, ◌++◌, codes, flat_map, fold, map, Option, None, Some, slice_get, if◌then◌else◌}
 use Rattle.std.specs.List.{list_any}
 use Rattle.std.specs.Option.{option_and_then, option_map_or}
+use Rattle.std.specs.Str.{bytes_eq}
 use Rattle.idl_changes.specs.Changes.{changes, entry_in, row_text}
 use Rattle.idl_changes.specs.Chosen.{meets}
 use Rattle.idl_changes.specs.Speaks.{IsDeclared, Speaks}
@@ -29,9 +30,28 @@ use Rattle.idl_tool.specs.Json.{rows_of}
 use Rattle.idl_tool.specs.Report.{place_text}
 use Rattle.idl_tool.specs.declared.request.Diff.{Diff}
 
--- what the listings of roots tell, one after the other, and the trees of that
+-- where a row is declared, if that is known, and its path
+abbrev pub place_before : Option NamePlace → List ℕ
+place_before place = option_map_or (λ p. place_text p.place p.column ++ codes ": ") place []
+
+abbrev pub declared_text : LocatedRow → List ℕ
+declared_text row = place_before row.declared ++ row.tree.path
+
+-- rows, and one more, unless one of its path is declared where it is
+abbrev pub with_row : List LocatedRow → LocatedRow → List LocatedRow
+with_row rows row =
+    if list_any (λ other. bytes_eq (declared_text row) (declared_text other)) rows
+    then rows
+    else rows ++ row ∷ []
+
+-- of rows of one path that are declared at one place the first
+abbrev pub each_once : List LocatedRow → List LocatedRow
+each_once rows = fold with_row [] rows
+
+-- what the listings of roots tell, one after the other, but what an earlier one tells of the same
+-- place; and the trees of that
 abbrev pub all_rows : Inputs → List (List ℕ) → List LocatedRow
-all_rows inputs roots = flat_map (rows_of inputs) roots
+all_rows inputs roots = each_once (flat_map (rows_of inputs) roots)
 
 abbrev pub trees_of : List LocatedRow → List RowTree
 trees_of rows = map (λ row. row.tree) rows
@@ -51,9 +71,6 @@ shown_place old new change =
     [ None ↦ option_and_then (place_at old) change.before | Some k ↦ place_at new k ]
 
 -- FILE:LINE:COLUMN: error: ROW, or note: a change is an error that has one of these weights
-abbrev pub place_before : Option NamePlace → List ℕ
-place_before place = option_map_or (λ p. place_text p.place p.column ++ codes ": ") place []
-
 abbrev pub grade : (fails weights : Weights) → List ℕ
 grade fails weights = if meets weights fails then codes "error: " else codes "note: "
 

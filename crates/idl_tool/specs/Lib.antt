@@ -7,5 +7,6 @@ pub mod Json
 pub mod Messages
 pub mod Report
 pub mod Served
+pub mod Sides
 pub mod Words
 pub mod make_rules

@@ -1,11 +1,14 @@
 -- What the words behind the program's name ask for: the options that there are, and what each word
 -- is to them by clap's `subcommand_of`, or what is wrong with the words by its `fault_of`.
-use Rattle.std.specs.Prelude.{◌≡◌, ◌≢◌, ◌⊎◌, Bool, List, [], ◌∷◌, ◌++◌, Option, None, Some, codes, false, if◌then◌else◌, map, true}
-use Rattle.std.specs.Option.{option_map, option_to_list}
+use Rattle.std.specs.Prelude.{◌≡◌, ◌≢◌, ◌⊎◌, ◌||◌, Bool, List, [], ◌∷◌, ◌++◌, Option, None, Some, codes, drop, false, fold, if◌then◌else◌, is_some, length, map, nat_eq, take, true}
+use Rattle.std.specs.Option.{option_map}
 use Rattle.std.specs.Str.{bytes_eq}
-use Rattle.clap.specs.Words.{App, Kinds, Row, Rule, Shape, Text, fault_of, first_of, new_app, new_rule, subcommand_of, with_subcommand}
+use Rattle.clap.specs.Words.{App, Kinds, Row, Rule, Shape, Text, fault_of, first_of, new_app, new_rule, shape_of, subcommand_of, with_subcommand}
 use Rattle.clap.specs.Simple.{new_shape, on_top}
 use Rattle.clap.specs.declared.builder.action.ArgAction.TheVariants.{Append, Set}
+use Rattle.clap.specs.declared.builder.command.Command.{Command}
+use Rattle.clap.specs.declared.builder.command.Command.TheViews.{out-Command as fields_of}
+use Rattle.idl_source.specs.names.Path.{is_rooted}
 use Rattle.idl_driver.specs.Parsed.{IsDisplay, IsRefusal, Tells}
 use Rattle.idl_driver.specs.Words.{AreOptionsOf, file_rule, flag_rule, option_rules, stands, values_of}
 use Rattle.idl_driver.specs.declared.options.Options.{Options}
@@ -63,9 +66,13 @@ abbrev pub side_rule : Text → Text → Rule
 side_rule id long =
     record (new_rule id) { long = Some long; action = Some Append; value_names = 1 }
 
--- OLD or NEW
-abbrev pub version_rule : Text → Rule
-version_rule id = record (new_rule id) { required = true; action = Some Set; value_names = 1 }
+-- `--old DIR`, once at most
+abbrev pub below_rule : Rule
+below_rule = record (new_rule (codes "below")) {
+  long = Some (codes "old");
+  action = Some Set;
+  value_names = 1;
+}
 
 -- `--fail-on WEIGHT[,WEIGHT..]`, or `--fail-on never`, once at most
 abbrev pub fails_rule : Rule
@@ -83,13 +90,13 @@ format_rule = record (new_rule (codes "format")) {
   value_names = 1;
 }
 
--- `-D`, `-U`, `-I`, these four, OLD and NEW
+-- `-D`, `-U`, `-I`, these five, and FILEs, of which there is one at least
 abbrev pub diff_shape : Shape
 diff_shape = record (new_shape (codes "diff")) {
   rules = option_rules
       ++ side_rule (codes "old-directory") (codes "old-I")
       ∷ side_rule (codes "new-directory") (codes "new-I")
-      ∷ fails_rule ∷ format_rule ∷ version_rule (codes "old") ∷ version_rule (codes "new") ∷ [];
+      ∷ below_rule ∷ fails_rule ∷ format_rule ∷ record file_rule { required = true } ∷ [];
 }
 
 -- `--stdio`, which changes nothing
@@ -109,16 +116,18 @@ bare = on_top (λ top. record top {
   arg_required_else_help = true;
 }) (new_app (codes "idltool"))
 
+abbrev pub subcommand_shapes : List Shape
+subcommand_shapes =
+    explain_shape ∷ deps_shape ∷ check_shape ∷ json_shape ∷ diff_shape ∷ lsp_shape ∷ []
+
 -- the program
 unfoldable pub idltool : App
-idltool =
-    with_subcommand
-    (with_subcommand
-    (with_subcommand
-    (with_subcommand (with_subcommand (with_subcommand bare explain_shape) deps_shape) check_shape)
-    json_shape)
-    diff_shape)
-    lsp_shape
+idltool = fold with_subcommand bare subcommand_shapes
+
+-- a command has this shape, and its arguments are its own
+abbrev pub IsSubcommand : Command → Shape → Type 0
+IsSubcommand command shape =
+    (shape_of command ≡ shape) × ((fields_of command).has_globals ≡ false)
 
 -- the subcommand that words name and what clap finds for its options, and what it tells of words
 -- that it doesn't take
@@ -143,14 +152,47 @@ pub record AreCheckOf (rows : List Row) (check : Check) : Type 0 where
   pub options : AreOptionsOf rows check.options
   pub warnings : check.counts_warnings ≡ stands (codes "werror") rows
 
--- what is asked for of one of two files: the one that this argument names, with the directories of
--- this option before those of `-I`
-pub record AreSideOf (file directory : Text) (rows : List Row) (options : Options) : Type 0 where
+-- a path below a directory. With a leading `/` it stands for itself
+abbrev pub below : Text → Text → Text
+below directory path = if is_rooted path then path else directory ++ 47 ∷ path
+
+abbrev pub all_below : Option Text → List Text → List Text
+all_below None paths = paths
+all_below (Some directory) paths = map (below directory) paths
+
+-- the FILEs of OLD, and those of NEW: of two FILEs the first and the second. With `--old DIR` each
+-- is NEW's, and below DIR OLD's
+abbrev pub old_files : Option Text → List Text → List Text
+old_files None files = take 1 files
+old_files (Some directory) files = all_below (Some directory) files
+
+abbrev pub new_files : Option Text → List Text → List Text
+new_files None files = drop 1 files
+new_files (Some directory) files = files
+
+abbrev pub below_in : List Row → Option Text
+below_in rows = first_of (codes "below") rows
+
+abbrev pub files_in : List Row → List Text
+files_in rows = values_of (codes "file") rows
+
+-- what is asked for of one of two versions, which has these files and directories
+pub record AreSideOf (files directories : List Text) (rows : List Row) (options : Options)
+    : Type 0 where
   pub defines : map (λ w. w.now) options.defines.items ≡ values_of (codes "define") rows
   pub undefines : map (λ w. w.now) options.undefines.items ≡ values_of (codes "undefine") rows
-  pub directories : map (λ w. w.now) options.directories.items
-      ≡ values_of directory rows ++ values_of (codes "directory") rows
-  pub files : map (λ w. w.now) options.files.items ≡ option_to_list (first_of file rows)
+  pub directories_are : map (λ w. w.now) options.directories.items ≡ directories
+  pub files_are : map (λ w. w.now) options.files.items ≡ files
+
+-- the directories of one version: those of its own option before those of `-I`
+abbrev pub old_directories : List Row → List Text
+old_directories rows =
+    values_of (codes "old-directory") rows
+    ++ all_below (below_in rows) (values_of (codes "directory") rows)
+
+abbrev pub new_directories : List Row → List Text
+new_directories rows =
+    values_of (codes "new-directory") rows ++ values_of (codes "directory") rows
 
 -- the weights with which a change is an error: on the wire and for clients, where none are named
 abbrev pub fails_of : Option Text → Option Weights
@@ -172,8 +214,10 @@ abbrev pub json_in : List Row → Option Bool
 json_in rows = json_of (first_of (codes "format") rows)
 
 pub record AreDiffOf (rows : List Row) (diff : Diff) : Type 0 where
-  pub old : AreSideOf (codes "old") (codes "old-directory") rows diff.old
-  pub new : AreSideOf (codes "new") (codes "new-directory") rows diff.new
+  pub old : AreSideOf (old_files (below_in rows) (files_in rows)) (old_directories rows) rows
+      diff.old
+  pub new : AreSideOf (new_files (below_in rows) (files_in rows)) (new_directories rows) rows
+      diff.new
   pub fails : fails_in rows ≡ Some diff.fails
   pub form : json_in rows ≡ Some diff.is_json
 
@@ -204,9 +248,15 @@ NamesNone words = (faults_in words ≡ [])
     × ((rows : List Row) → entered_in words ≢ Some (codes "diff", rows))
     × ((rows : List Row) → entered_in words ≢ Some (codes "lsp", rows))
 
--- `--fail-on` has a word that is no weight, or `--format` one that is no format
+-- there are OLD and NEW, or `--old`
+abbrev pub has_versions : List Row → Bool
+has_versions rows = is_some (below_in rows) || nat_eq (length (files_in rows)) 2
+
+-- `--fail-on` has a word that is no weight, or `--format` one that is no format, or there aren't two
+-- versions
 abbrev pub AreNoDiff : List Row → Type 0
-AreNoDiff rows = (fails_in rows ≡ None) ⊎ (json_in rows ≡ None)
+AreNoDiff rows =
+    (fails_in rows ≡ None) ⊎ ((json_in rows ≡ None) ⊎ (has_versions rows ≡ false))
 
 -- clap takes the words, and so it is
 abbrev pub NamesNoDiff : List Text → Type 0

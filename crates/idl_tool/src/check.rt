@@ -1,6 +1,6 @@
 //! What is found in files, for who reads it: each finding is told once, with its line.
 
-ghost use Rattle.std.specs.Prelude.{◌≡◌, ◌≤◌, ◌<◌, ◌+◌, ◌-◌, ◌^◌, [], IfOk, List, OnErr, OnOk, flat_map, if◌then◌else◌, length, map};
+ghost use Rattle.std.specs.Prelude.{◌≡◌, ◌≤◌, ◌<◌, ◌+◌, ◌-◌, ◌++◌, ◌^◌, [], IfOk, List, OnErr, OnOk, filter, flat_map, if◌then◌else◌, length, map};
 ghost use Rattle.std.specs.List.{zip};
 ghost use Rattle.std.specs.Option.{option_copied};
 ghost use Rattle.idl_explain.specs.declared.explanation.Explanation.{Explanation};
@@ -8,7 +8,7 @@ ghost use Rattle.idl_driver.specs.Rows.{are_faulty};
 ghost use Rattle.idl_driver.specs.Written.{WritesSome};
 ghost use Rattle.idl_loader.specs.declared.status.Status.TheVariants.{Faulty, Sound};
 ghost use Rattle.idl_driver.specs.idl_sources.Compile.{compiled_root};
-ghost use Rattle.idl_tool.specs.Checked.{AreReported, AreToldOf, Explains, IsChecked, IsReportText, IsToldOf, Told, all_of, are_faults, column_of, entry_text, in_order, is_fault, line_at, report_in, seconds_in};
+ghost use Rattle.idl_tool.specs.Checked.{AreReported, AreReportsWritten, AreToldOf, Explains, IsChecked, IsReportText, IsToldOf, Told, all_of, are_faults, column_of, entry_text, in_order, is_fault, is_of, line_at, numbered_line, report_in, seconds_in};
 ghost use Rattle.idl_tool.specs.ToldAt.{told_at};
 
 use crate::failure::ToolFailure;
@@ -17,14 +17,14 @@ use crate::report::{LocatedFinding, push_second};
 use crate::request::Check;
 use idl_base::{Bytes, Seq};
 use idl_driver::idl_sources::{CompiledRoot, Finding, Sources, related_over};
-use idl_driver::{Devices, compile_sound_files};
+use idl_driver::{Devices, SoundFiles, compile_sound_files};
 use idl_explain::{Topic, explanation_of};
 use idl_fault::Place;
 use idl_inputs::Columns;
 use idl_loader::{Loader, Status};
 use idl_related::{Related, follows};
 use idl_source::devices::write_all;
-use idl_source::{Name, Sink};
+use idl_source::{Line, Name, Sink};
 use indexmap::IndexMap;
 use std::alloc::{AllocError, Global};
 use std::mem::forget;
@@ -51,14 +51,41 @@ pub fn check<'a, L: Loader, S, O: Sink, E: Sink>(
         (WritesSome (E.written devices.old.errors) (E.written devices.new.errors)) }
 {
     let all = compile_sound_files(alloc, &asked.options, &mut devices.loader)?;
-    let trouble = troubles_text(alloc, &all)?;
-    let text = report_text(&all.sound.sources, &all.sound.roots, &all.sound.compiled)?;
-    let status = ending_of(&all.sound.compiled, asked.counts_warnings);
-    let status = ended_by(&all, status);
-    write_all(&mut devices.errors, &trouble)?;
-    write_all(&mut devices.output, &text)?;
+    let status = write_reports(&all, asked.counts_warnings, devices);
     // The program ends here, and all memory goes back at once.
     forget(all);
+    status
+}
+
+// Writes the reports of these files, and the trouble of others.
+fn write_reports<'a, L: Loader, S, O: Sink, E: Sink>(
+    all: &SoundFiles<'_>,
+    counts_warnings: bool,
+    devices: &mut Devices<L, S, O, E>,
+) -> Result<Status, ToolFailure<'a>>
+    requires compiled { all.now.sound.compiled.items
+        ≡ map (compiled_root all.now.sound.sources) all.now.sound.roots.items }
+    requires writes { O.failures devices.old.output < 2 ^ 64 - 1 }
+    requires tells { E.failures devices.old.errors < 2 ^ 64 - 2 }
+
+    ensures reported { IfOk result (λ status. AreReportsWritten counts_warnings all.now
+        (record { errors = E.written devices.old.errors; output = O.written devices.old.output })
+        (record { errors = E.written devices.new.errors; output = O.written devices.new.output })
+        status) }
+    ensures well { OnOk result
+        ((O.failures devices.new.output ≡ O.failures devices.old.output)
+        × (E.failures devices.new.errors ≡ E.failures devices.old.errors)) }
+    ensures most { E.failures devices.new.errors ≤ E.failures devices.old.errors + 1 }
+    ensures least { E.failures devices.old.errors ≤ E.failures devices.new.errors }
+    ensures until { OnErr result
+        (WritesSome (E.written devices.old.errors) (E.written devices.new.errors)) }
+{
+    let trouble = troubles_text(all.sound.sources.allocator(), all)?;
+    let text = report_text(&all.sound.sources, &all.sound.roots, &all.sound.compiled)?;
+    let status = ending_of(&all.sound.compiled, counts_warnings);
+    let status = ended_by(all, status);
+    write_all(&mut devices.errors, &trouble)?;
+    write_all(&mut devices.output, &text)?;
     Ok(status)
 }
 
@@ -107,7 +134,6 @@ fn add_root(
     let findings = compiled.rows.findings.as_slice();
     let related = related_over(sources, root, findings)?;
     let told = told_of(sources.allocator(), findings, related.as_slice())?;
-    let told = in_order(sources.allocator(), &told)?;
     let mut columns = sources.columns();
     add_reports(&mut columns, &told, reports)
 }
@@ -119,46 +145,44 @@ struct RelatedFinding<'a> {
     related: &'a [Related],
 }
 
-// These findings, each with its second places.
+// These findings, each with its second places, those last that follow from an error elsewhere.
 fn told_of<'f>(
     alloc: Global,
     findings: &'f [Finding],
     related: &'f [Seq<Related>],
 ) -> Result<Vec<RelatedFinding<'f>>, AllocError>
     requires { length related.now ≡ length findings.now }
-    ensures { IfOk result (λ told. map told_at told.items ≡ zip findings.now related.now) }
+    ensures { IfOk result (λ told.
+        map told_at told.items ≡ in_order (zip findings.now related.now)) }
 {
     let mut told = Vec::with_capacity(alloc, findings.len())?;
-    'findings: for index in 0..findings.len() {
-        told.push(RelatedFinding {
-            finding: &findings[index],
-            related: related[index].as_slice(),
-        })?;
-    }
+    push_those(findings, related, false, &mut told)?;
+    push_those(findings, related, true, &mut told)?;
     Ok(told)
 }
 
-// The same, those last that follow from an error elsewhere.
-fn in_order<'f>(
-    alloc: Global,
-    told: &[RelatedFinding<'f>],
-) -> Result<Vec<RelatedFinding<'f>>, AllocError>
-    ensures { IfOk result (λ ordered. map told_at ordered.items ≡ in_order (map told_at told.now)) }
+// Puts in those of them that follow from an error elsewhere, or the others.
+fn push_those<'f>(
+    findings: &'f [Finding],
+    related: &'f [Seq<Related>],
+    are_following: bool,
+    told: &mut Vec<RelatedFinding<'f>>,
+) -> Result<(), AllocError>
+    requires { length related.now ≡ length findings.now }
+    ensures { OnOk result (map told_at told.new.items ≡ map told_at told.old.items
+        ++ filter (is_of are_following) (zip findings.entry.now related.entry.now)) }
 {
-    let mut ordered = Vec::with_capacity(alloc, told.len())?;
-    'leading: for one in told {
-        if follows(one.related) {
+    'findings: for index in 0..findings.len() {
+        let one = RelatedFinding {
+            finding: &findings[index],
+            related: related[index].as_slice(),
+        };
+        if follows(one.related) != are_following {
             continue;
         }
-        ordered.push(*one)?;
+        told.push(one)?;
     }
-    'following: for one in told {
-        if !follows(one.related) {
-            continue;
-        }
-        ordered.push(*one)?;
-    }
-    Ok(ordered)
+    Ok(())
 }
 
 // Puts in the reports of these findings that aren't there.
@@ -217,8 +241,17 @@ fn behind_of(columns: &mut Columns<'_>, related: &[Related]) -> Result<Bytes, Al
 fn line_at<'s>(columns: &Columns<'s>, place: &Place) -> Option<&'s [u8]>
     ensures { option_copied result ≡ line_at columns.now place.now }
 {
-    let lines = columns.file(place.file.as_bytes())?;
-    let index = place.line.checked_sub(1)?;
+    match columns.file(place.file.as_bytes()) {
+        Some(lines) => numbered_line(lines, place.line),
+        None => None,
+    }
+}
+
+// The line with this number, from 1 on, if there is one.
+fn numbered_line(lines: &[Line], number: u32) -> Option<&[u8]>
+    ensures { option_copied result ≡ numbered_line lines.entry.now number }
+{
+    let index = number.checked_sub(1)?;
     let line = lines.get(index as usize)?;
     Some(line.as_bytes())
 }

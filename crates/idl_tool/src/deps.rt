@@ -2,7 +2,8 @@
 
 ghost use Rattle.std.specs.Prelude.{◌≡◌, ◌++◌, ◌∷◌, ◌≤◌, ◌<◌, ◌+◌, ◌-◌, ◌^◌, [], All, IfOk, IsTrue, OnErr, OnOk, codes, filter, flat_map, map};
 ghost use Rattle.idl_driver.specs.Written.{WritesSome};
-ghost use Rattle.idl_tool.specs.Deps.{IsServed, empty_rule, is_other, is_there, need_of, rules_in, stem, target_of, wanted_in};
+ghost use Rattle.idl_driver.specs.idl_sources.Compile.{compiled_root};
+ghost use Rattle.idl_tool.specs.Deps.{AreRuled, IsServed, empty_rule, is_other, is_there, need_of, rules_in, stem, target_of, wanted_in};
 ghost use Rattle.idl_tool.specs.make_rules.Make.{IsMakeRule, is_make_name, need_text, rules_text, target_text};
 
 use crate::check::{report_text, status_of};
@@ -11,7 +12,7 @@ use crate::faults::{ended_by, troubles_text};
 use crate::make_rules::{is_make_name, push_need, push_need_if_there, push_target};
 use crate::request::Deps;
 use idl_driver::idl_sources::Sources;
-use idl_driver::{Devices, FailureSubject, compile_sound_files};
+use idl_driver::{Devices, FailureSubject, SoundFiles, compile_sound_files};
 use idl_loader::{Loader, Status};
 use idl_source::devices::write_all;
 use idl_source::{Name, Sink};
@@ -40,16 +41,43 @@ pub fn write_deps<'a, L: Loader, S, O: Sink, E: Sink>(
         (WritesSome (E.written devices.old.errors) (E.written devices.new.errors)) }
 {
     let all = compile_sound_files(alloc, &deps.options, &mut devices.loader)?;
-    let trouble = troubles_text(alloc, &all)?;
+    let status = write_rules(&all, deps, devices);
+    // The program ends here, and all memory goes back at once.
+    forget(all);
+    status
+}
+
+// Writes the rules of these files, what is told of them, and the trouble of others.
+fn write_rules<'a, L: Loader, S, O: Sink, E: Sink>(
+    all: &SoundFiles<'_>,
+    deps: &Deps<'a>,
+    devices: &mut Devices<L, S, O, E>,
+) -> Result<Status, ToolFailure<'a>>
+    requires compiled { all.now.sound.compiled.items
+        ≡ map (compiled_root all.now.sound.sources) all.now.sound.roots.items }
+    requires writes { O.failures devices.old.output < 2 ^ 64 - 1 }
+    requires tells { E.failures devices.old.errors < 2 ^ 64 - 2 }
+
+    ensures ruled { IfOk result (λ status. AreRuled deps.now all.now
+        (record { errors = E.written devices.old.errors; output = O.written devices.old.output })
+        (record { errors = E.written devices.new.errors; output = O.written devices.new.output })
+        status) }
+    ensures well { OnOk result
+        ((O.failures devices.new.output ≡ O.failures devices.old.output)
+        × (E.failures devices.new.errors ≡ E.failures devices.old.errors)) }
+    ensures most { E.failures devices.new.errors ≤ E.failures devices.old.errors + 1 }
+    ensures least { E.failures devices.old.errors ≤ E.failures devices.new.errors }
+    ensures until { OnErr result
+        (WritesSome (E.written devices.old.errors) (E.written devices.new.errors)) }
+{
+    let trouble = troubles_text(all.sound.sources.allocator(), all)?;
     let rules = rules_of(&all.sound.sources, &all.sound.roots, deps)?;
     let reports = report_text(&all.sound.sources, &all.sound.roots, &all.sound.compiled)?;
     let status = status_of(&all.sound.compiled);
-    let status = ended_by(&all, status);
+    let status = ended_by(all, status);
     write_all(&mut devices.errors, &trouble)?;
     write_all(&mut devices.errors, &reports)?;
     write_all(&mut devices.output, &rules)?;
-    // The program ends here, and all memory goes back at once.
-    forget(all);
     Ok(status)
 }
 
@@ -184,13 +212,26 @@ fn push_needs(
         OnOk result (out.new.items ≡ out.old.items ++ flat_map need_text needs ++ 10 ∷ []) }
 {
     'names: for name in asked {
-        if deps.has_generated || sources.has_file(name) {
-            push_need(name.as_bytes(), out)?;
-        } else {
-            push_need_if_there(name.as_bytes(), out)?;
-        }
+        push_need_of(sources, name, deps, out)?;
     }
     out.extend_from_slice(b"\n")
+}
+
+// Writes that a target stands on a file, or that it does if that is there.
+fn push_need_of(
+    sources: &Sources,
+    name: &Name,
+    deps: &Deps<'_>,
+    out: &mut Vec<u8>,
+) -> Result<(), AllocError>
+    ensures { let need = need_of deps.now.has_generated sources.now.files name.now in
+        OnOk result (out.new.items ≡ out.old.items ++ need_text need) }
+{
+    if deps.has_generated || sources.has_file(name) {
+        push_need(name.as_bytes(), out)
+    } else {
+        push_need_if_there(name.as_bytes(), out)
+    }
 }
 
 // Writes a rule without needs for each of these files that is there and isn't the root.

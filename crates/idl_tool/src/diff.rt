@@ -1,6 +1,6 @@
 //! What changes from one version of a file to another.
 
-ghost use Rattle.std.specs.Prelude.{◌≡◌, ◌≤◌, ◌<◌, ◌+◌, ◌++◌, ◌-◌, ◌^◌, IfOk, OnErr, OnOk, if◌then◌else◌, map, option_copied};
+ghost use Rattle.std.specs.Prelude.{◌≡◌, ◌≤◌, ◌<◌, ◌+◌, ◌++◌, ◌-◌, ◌^◌, IfOk, OnErr, OnOk, flat_map, if◌then◌else◌, map, option_copied};
 ghost use Rattle.std.specs.Option.{option_map};
 ghost use Rattle.idl_source.specs.devices.Device.{append};
 ghost use Rattle.idl_inputs.specs.Bank.{bank_of};
@@ -10,16 +10,20 @@ ghost use Rattle.idl_driver.specs.Compilations.{HasCompiled};
 ghost use Rattle.idl_driver.specs.Rows.{are_faulty};
 ghost use Rattle.idl_driver.specs.Written.{WritesSome};
 ghost use Rattle.idl_json.specs.Listed.{place_of, row_of};
-ghost use Rattle.idl_tool.specs.Compared.{IsCompared, all_rows, are_failing, change_lines, changes_of, ending_by, ending_of, grade, has_error, lines_between, place_at, object_line, place_before, seen, shown_between, shown_place, trees_of};
+ghost use Rattle.idl_tool.specs.Json.{row_in, rows_of};
+ghost use Rattle.idl_tool.specs.Sides.{AreSides};
+ghost use Rattle.idl_tool.specs.Compared.{AreCompared, IsCompared, all_rows, are_failing, change_lines, changes_of, ending_by, ending_of, grade, has_error, lines_between, place_at, object_line, place_before, seen, shown_between, shown_place, told_line, trees_of};
 
 use crate::check::{report_text, status_of};
 use crate::failure::ToolFailure;
 use crate::json::rows_of;
+use crate::once::each_once;
 use crate::report::push_place;
 use crate::request::Diff;
 use idl_changes::{Change, Weights, changes, entry_of, push_change};
-use idl_driver::idl_sources::{CompiledRoot, Details, Sources};
+use idl_driver::idl_sources::{CompiledRoot, DetailedEntry, Details, Sources};
 use idl_driver::{Compilation, Devices, compile_files};
+use idl_inputs::Columns;
 use idl_json::{ChangeTold, ListedRow, NamePlace, change_line};
 use idl_loader::{Loader, Status};
 use idl_repo::details::RowTree;
@@ -51,14 +55,42 @@ pub fn write_diff<'a, L: Loader, S, O: Sink, E: Sink>(
 {
     let old = compile_files(alloc, &diff.old, &mut devices.loader)?;
     let new = compile_files(alloc, &diff.new, &mut devices.loader)?;
+    let status = write_compared(diff, &old, &new, devices);
+    // The program ends here, and all memory goes back at once.
+    forget((old, new));
+    status
+}
+
+// Writes what changes from one version to another, and what is told of the two.
+fn write_compared<'a, L: Loader, S, O: Sink, E: Sink>(
+    diff: &Diff<'_>,
+    old: &Compilation,
+    new: &Compilation,
+    devices: &mut Devices<L, S, O, E>,
+) -> Result<Status, ToolFailure<'a>>
+    requires first { HasCompiled old.now }
+    requires second { HasCompiled new.now }
+    requires writes { O.failures devices.old.output < 2 ^ 64 - 1 }
+    requires tells { E.failures devices.old.errors < 2 ^ 64 - 2 }
+
+    ensures compared { IfOk result (λ status.
+        AreCompared diff.now.is_json diff.now.fails (seen old.now) (seen new.now)
+        (record { errors = E.written devices.old.errors; output = O.written devices.old.output })
+        (record { errors = E.written devices.new.errors; output = O.written devices.new.output })
+        status) }
+    ensures well { OnOk result
+        ((O.failures devices.new.output ≡ O.failures devices.old.output)
+        × (E.failures devices.new.errors ≡ E.failures devices.old.errors)) }
+    ensures most { E.failures devices.new.errors ≤ E.failures devices.old.errors + 1 }
+    ensures least { E.failures devices.old.errors ≤ E.failures devices.new.errors }
+    ensures until { OnErr result
+        (WritesSome (E.written devices.old.errors) (E.written devices.new.errors)) }
+{
     let first = report_text(&old.sources, old.roots.as_slice(), &old.compiled)?;
     let second = report_text(&new.sources, new.roots.as_slice(), &new.compiled)?;
     write_all(&mut devices.errors, &first)?;
     write_all(&mut devices.errors, &second)?;
-    let status = write_between(diff, &old, &new, &mut devices.output)?;
-    // The program ends here, and all memory goes back at once.
-    forget((old, new));
-    Ok(status)
+    write_between(diff, old, new, &mut devices.output)
 }
 
 // Writes the changes from one version to another, unless one of them has an error.
@@ -122,13 +154,27 @@ fn write_changes<'a, K: Sink>(
         status ≡ ending_by diff.now.fails (seen old.now) (seen new.now)) }
     ensures well { OnOk result (K.failures output.new ≡ K.failures output.old) }
 {
+    let (text, status) = changes_text(diff, old, new)?;
+    write_all(output, &text)?;
+    Ok(status)
+}
+
+// The lines of the changes from one version to another, and how the program ends by them.
+fn changes_text(
+    diff: &Diff<'_>,
+    old: &Compilation,
+    new: &Compilation,
+) -> Result<(Vec<u8>, Status), AllocError>
+    ensures lines { IfOk result (λ told. told.0.items
+        ≡ lines_between diff.now.fails (seen old.now) (seen new.now) diff.now.is_json) }
+    ensures status { IfOk result (λ told.
+        told.1 ≡ ending_by diff.now.fails (seen old.now) (seen new.now)) }
+{
     let before = details_of(&old.sources, old.roots.as_slice())?;
     let after = details_of(&new.sources, new.roots.as_slice())?;
     let was = all_rows(&old.sources, old.roots.as_slice(), &before)?;
     let is = all_rows(&new.sources, new.roots.as_slice(), &after)?;
-    let (text, status) = told_between(old.sources.allocator(), diff, &was, &is)?;
-    write_all(output, &text)?;
-    Ok(status)
+    told_between(old.sources.allocator(), diff, &was, &is)
 }
 
 // The lines of the changes from one listing to another, and how the program ends by them.
@@ -145,24 +191,66 @@ fn told_between<'d>(
         ≡ (if are_failing diff.now.fails (changes_of (map row_of old.now) (map row_of new.now))
         then Faulty else Sound)) }
 {
-    let old_trees = trees_of(alloc, old)?;
-    let new_trees = trees_of(alloc, new)?;
-    let was = old_trees.as_slice();
-    let is = new_trees.as_slice();
-    let told = changes(alloc, was, is)?;
-    let mut text = Vec::new(alloc);
-    'lines: for change in &told {
-        if diff.is_json {
-            let entry = entry_of(was, is, change);
-            push_object(&mut text, entry, shown_place(old, new, change), change)?;
-        } else {
-            push_head(&mut text, diff.fails, (old, new), change)?;
-            push_change(&mut text, was, is, change)?;
-            text.extend_from_slice(b"\n")?;
-        }
-    }
+    let was = trees_of(alloc, old)?;
+    let is = trees_of(alloc, new)?;
+    let told = changes(alloc, was.as_slice(), is.as_slice())?;
+    let sides = Sides {
+        old,
+        new,
+        was: was.as_slice(),
+        is: is.as_slice(),
+    };
+    let text = lines_of(alloc, diff, sides, &told)?;
     let status = ending_by(diff.fails, &told);
     Ok((text, status))
+}
+
+// Two listings, and their trees.
+#[derive(Clone, Copy)]
+struct Sides<'s, 'd> {
+    old: &'s [ListedRow<'d>],
+    new: &'s [ListedRow<'d>],
+    was: &'s [&'d RowTree],
+    is: &'s [&'d RowTree],
+}
+
+// The lines of these changes.
+fn lines_of(
+    alloc: Global,
+    diff: &Diff<'_>,
+    sides: Sides<'_, '_>,
+    told: &[Change],
+) -> Result<Vec<u8>, AllocError>
+    requires { AreSides sides }
+    ensures { IfOk result (λ text. text.items ≡ change_lines diff.now.is_json diff.now.fails
+        (map row_of sides.entry.old.now) (map row_of sides.entry.new.now) told.now) }
+{
+    let mut text = Vec::new(alloc);
+    'lines: for change in told {
+        push_line(&mut text, diff, sides, change)?;
+    }
+    Ok(text)
+}
+
+// Writes a change, on a line of its own.
+fn push_line(
+    text: &mut Vec<u8>,
+    diff: &Diff<'_>,
+    sides: Sides<'_, '_>,
+    change: &Change,
+) -> Result<(), AllocError>
+    requires { AreSides sides }
+    ensures { OnOk result (text.new.items ≡ text.old.items ++ told_line diff.now.is_json
+        diff.now.fails (map row_of sides.entry.old.now) (map row_of sides.entry.new.now) change.now) }
+{
+    let Sides { old, new, was, is } = sides;
+    if diff.is_json {
+        let entry = entry_of(was, is, change);
+        return push_object(text, entry, shown_place(old, new, change), change);
+    }
+    push_head(text, diff.fails, (old, new), change)?;
+    push_change(text, was, is, change)?;
+    text.extend_from_slice(b"\n")
 }
 
 // How the program ends by changes.
@@ -188,7 +276,7 @@ fn details_of(sources: &Sources, roots: &[Name]) -> Result<Vec<Details>, AllocEr
     Ok(all)
 }
 
-// The rows of these roots' listings, one after the other, each with where it is declared.
+// What the listings of these roots tell, one after the other, what is declared at one place once.
 fn all_rows<'d>(
     sources: &Sources,
     roots: &[Name],
@@ -197,14 +285,42 @@ fn all_rows<'d>(
     requires { all.now ≡ map (details_over (bank_of sources.now)) roots.now }
     ensures { IfOk result (λ rows. map row_of rows.items ≡ all_rows sources.now roots.now) }
 {
+    let rows = rows_of_all(sources, roots, all)?;
+    each_once(sources.allocator(), &rows)
+}
+
+// The rows of these roots' listings, one after the other, each with where it is declared.
+fn rows_of_all<'d>(
+    sources: &Sources,
+    roots: &[Name],
+    all: &'d [Details],
+) -> Result<Vec<ListedRow<'d>>, AllocError>
+    requires { all.now ≡ map (details_over (bank_of sources.now)) roots.now }
+    ensures { IfOk result (λ rows.
+        map row_of rows.items ≡ flat_map (rows_of sources.now) roots.now) }
+{
     let mut columns = sources.columns();
     let mut rows = Vec::new(sources.allocator());
     'roots: for index in 0..roots.len() {
         let entries = all[index].entries.as_slice();
-        let listed = rows_of(&mut columns, &roots[index], entries)?;
-        rows.extend_from_slice(&listed)?;
+        push_rows(&mut columns, &roots[index], entries, &mut rows)?;
     }
     Ok(rows)
+}
+
+// Puts in the rows of a root's entries.
+fn push_rows<'d>(
+    columns: &mut Columns<'_>,
+    root: &Name,
+    entries: &'d [DetailedEntry],
+    rows: &mut Vec<ListedRow<'d>>,
+) -> Result<(), AllocError>
+    ensures rows { OnOk result (map row_of rows.new.items
+        ≡ map row_of rows.old.items ++ map (row_in columns.old root.now) entries.entry.now) }
+    ensures same { columns.new ≡ columns.old }
+{
+    let listed = rows_of(columns, root, entries)?;
+    rows.extend_from_slice(&listed)
 }
 
 // The trees of rows.
@@ -284,7 +400,10 @@ fn place_at<'d>(rows: &[ListedRow<'d>], place: usize) -> Option<NamePlace<'d>>
 }
 
 // Writes where something is declared, if that is known.
-fn push_shown(text: &mut Vec<u8>, declared: Option<NamePlace<'_>>) -> Result<(), AllocError>
+pub(crate) fn push_shown(
+    text: &mut Vec<u8>,
+    declared: Option<NamePlace<'_>>,
+) -> Result<(), AllocError>
     ensures { OnOk result (text.new.items
         ≡ text.old.items ++ place_before (option_map place_of declared.entry)) }
 {

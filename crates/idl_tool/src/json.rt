@@ -7,7 +7,7 @@ ghost use Rattle.idl_json.specs.Listed.{place_of, row_of};
 ghost use Rattle.idl_json.specs.Root.{IsRootLine};
 ghost use Rattle.idl_driver.specs.Written.{WritesSome};
 ghost use Rattle.idl_driver.specs.idl_sources.Compile.{compiled_root};
-ghost use Rattle.idl_tool.specs.Json.{IsLineOf, IsLineWith, IsWritten, declared_in, listing_of, located_in, row_in, second_at, told_of};
+ghost use Rattle.idl_tool.specs.Json.{AreWritten, IsLineOf, IsLineWith, IsWritten, declared_in, listing_of, located_in, row_in, second_at, told_of};
 
 use crate::check::{column_of, status_of};
 use crate::failure::ToolFailure;
@@ -16,7 +16,7 @@ use idl_base::Seq;
 use idl_driver::idl_sources::{
     CompiledRoot, DeclaredPlace, DetailedEntry, Details, Finding, SitedToken, Sources, related_over,
 };
-use idl_driver::{Devices, Options, compile_sound_files};
+use idl_driver::{Devices, Options, SoundFiles, compile_sound_files};
 use idl_inputs::Columns;
 use idl_json::{Diagnostic, ListedRow, NamePlace, RootTold, SecondPlace, root_line};
 use idl_loader::{Loader, Status};
@@ -48,14 +48,40 @@ pub fn write_json<'a, L: Loader, S, O: Sink, E: Sink>(
         (WritesSome (E.written devices.old.errors) (E.written devices.new.errors)) }
 {
     let all = compile_sound_files(alloc, options, &mut devices.loader)?;
-    let trouble = troubles_text(alloc, &all)?;
-    let text = lines_of(&all.sound.sources, &all.sound.roots, &all.sound.compiled)?;
-    let status = status_of(&all.sound.compiled);
-    let status = ended_by(&all, status);
-    write_all(&mut devices.errors, &trouble)?;
-    write_all(&mut devices.output, &text)?;
+    let status = write_lines(&all, devices);
     // The program ends here, and all memory goes back at once.
     forget(all);
+    status
+}
+
+// Writes the lines of these files, and the trouble of others.
+fn write_lines<'a, L: Loader, S, O: Sink, E: Sink>(
+    all: &SoundFiles<'_>,
+    devices: &mut Devices<L, S, O, E>,
+) -> Result<Status, ToolFailure<'a>>
+    requires compiled { all.now.sound.compiled.items
+        ≡ map (compiled_root all.now.sound.sources) all.now.sound.roots.items }
+    requires writes { O.failures devices.old.output < 2 ^ 64 - 1 }
+    requires tells { E.failures devices.old.errors < 2 ^ 64 - 2 }
+
+    ensures written { IfOk result (λ status. AreWritten all.now
+        (record { errors = E.written devices.old.errors; output = O.written devices.old.output })
+        (record { errors = E.written devices.new.errors; output = O.written devices.new.output })
+        status) }
+    ensures well { OnOk result
+        ((O.failures devices.new.output ≡ O.failures devices.old.output)
+        × (E.failures devices.new.errors ≡ E.failures devices.old.errors)) }
+    ensures most { E.failures devices.new.errors ≤ E.failures devices.old.errors + 1 }
+    ensures least { E.failures devices.old.errors ≤ E.failures devices.new.errors }
+    ensures until { OnErr result
+        (WritesSome (E.written devices.old.errors) (E.written devices.new.errors)) }
+{
+    let trouble = troubles_text(all.sound.sources.allocator(), all)?;
+    let text = lines_of(&all.sound.sources, &all.sound.roots, &all.sound.compiled)?;
+    let status = status_of(&all.sound.compiled);
+    let status = ended_by(all, status);
+    write_all(&mut devices.errors, &trouble)?;
+    write_all(&mut devices.output, &text)?;
     Ok(status)
 }
 

@@ -5,6 +5,7 @@
 #![tactic(auto)]
 
 mod check;
+mod commands;
 mod deps;
 mod diff;
 mod explain;
@@ -13,9 +14,11 @@ mod faults;
 mod json;
 mod laws;
 pub mod make_rules;
+mod once;
 mod program;
 mod report;
 mod request;
+mod versions;
 
 pub use idl_driver;
 pub use laws::{findings_are_told_once, rules_tell_what_is_asked, sound_changes_speak};

@@ -3,7 +3,7 @@
 ghost use Rattle.std.specs.Prelude.{◌≡◌, ◌++◌, ◌<◌, IfOk, OnOk, flat_map};
 ghost use Rattle.std.specs.Option.{option_copied};
 ghost use Rattle.bstr.specs.Utf8.{decoded};
-ghost use Rattle.idl_tool.specs.Report.{beginning, column_text, excerpt, gap_below, heading, hex_digit, is_shown, line_byte, line_text, mark_below, marked, marks, more_text, note_beginning, note_saying, numbered, other_byte, place_text, report, saying, second_line, severity, shown_first, shown_piece, shown_text, token_in};
+ghost use Rattle.idl_tool.specs.Report.{beginning, column_text, excerpt, gap_below, heading, hex_digit, is_shown, line_byte, line_text, mark_below, marked, marks, more_text, note_beginning, note_saying, numbered, other_byte, place_text, report, saying, second_line, severity, shown_first, shown_piece, shown_text, shown_token, token_in};
 
 use bstr::decode_utf8;
 use idl_driver::idl_sources::Finding;
@@ -98,12 +98,19 @@ fn push_note(place: &Place, column: Option<usize>, out: &mut Vec<u8>) -> Result<
 fn push_reason(second: &Related, out: &mut Vec<u8>) -> Result<(), AllocError>
     ensures { OnOk result (out.new.items ≡ out.old.items ++ note_saying second.now) }
 {
-    let token = shown_text(*out.allocator(), second.text.as_bytes(), false)?;
     out.extend_from_slice(second.reason.words())?;
     out.extend_from_slice(b": ")?;
-    out.extend_from_slice(&token)?;
+    push_token(second.text.as_bytes(), out)?;
     push_more(second.more, out)?;
     out.extend_from_slice(b"\n")
+}
+
+// Writes a token, as a terminal can show it.
+fn push_token(token: &[u8], out: &mut Vec<u8>) -> Result<(), AllocError>
+    ensures { OnOk result (out.new.items ≡ out.old.items ++ shown_token token.now) }
+{
+    let shown = shown_text(*out.allocator(), token, false)?;
+    out.extend_from_slice(&shown)
 }
 
 // Writes `, and N more`, where so many more were found than are told.

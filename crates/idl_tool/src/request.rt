@@ -1,18 +1,15 @@
 //! The words that the program is given.
 
-ghost use Rattle.std.specs.Prelude.{◌≡◌, IfErr, IfOk, MatchOption, [], Some, codes, false, map, true};
-ghost use Rattle.std.specs.Option.{option_to_list};
-ghost use Rattle.clap.specs.Words.{app_of, first_of, found_of, rows_of, rule_of, shape_of, subcommand_rows_of};
-ghost use Rattle.clap.specs.declared.builder.command.Command.TheViews.{out-Command as fields_of};
+ghost use Rattle.std.specs.Prelude.{◌≡◌, IfErr, IfOk, MatchOption, [], Some, false, length, map, true};
+ghost use Rattle.clap.specs.Words.{found_of, rows_of, subcommand_rows_of};
 ghost use Rattle.idl_driver.specs.Parsed.{SaysWrong};
-ghost use Rattle.idl_driver.specs.Words.{file_rule};
-ghost use Rattle.idl_tool.specs.Words.{AreCheckOf, AreDepsOf, AreWrong, AreDiffOf, AreNoDiff, AreSideOf, IsRequestOf, bare, check_shape, deps_shape, diff_shape, lsp_shape, entered_in, explain_shape, fails_in, fails_rule, faults_in, format_rule, generated_rule, idltool, json_in, json_of, json_shape, present_rule, side_rule, stdio_rule, target_rule, version_rule, werror_rule, word_rule};
+ghost use Rattle.idl_tool.specs.Words.{AreCheckOf, AreDepsOf, AreWrong, AreDiffOf, AreNoDiff, IsRequestOf, entered_in, fails_in, faults_in, files_in, has_versions, json_in, json_of};
 
-use clap::{Arg, ArgAction, ArgMatches, Command};
+use crate::commands::command;
+use crate::versions::{below_of, new_side, old_side};
+use clap::ArgMatches;
 use idl_changes::Weights;
-use idl_driver::{
-    Options, ParsedWords, WordsFault, options_of, parse_words, values_of, with_options,
-};
+use idl_driver::{Options, ParsedWords, WordsFault, options_of, parse_words, values_of};
 use std::alloc::{AllocError, Global};
 
 /// What is to be told of files, and how the program ends then.
@@ -37,12 +34,12 @@ pub struct Deps<'a> {
     pub leaves_absent: bool,
 }
 
-/// Which files are to be compared, what each is compiled over, which changes are errors, and how they are written.
+/// Which versions are to be compared, what each is compiled over, which changes are errors, and how they are written.
 #[derive(Drop)]
 pub struct Diff<'a> {
-    /// The old file.
+    /// The old files.
     pub old: Options<'a>,
-    /// The new one.
+    /// The new ones.
     pub new: Options<'a>,
     /// The weights with which a change is an error.
     pub fails: Weights,
@@ -121,252 +118,6 @@ fn chosen<'a>(
     }
 }
 
-fn command<'a>(alloc: Global) -> Result<Command<'a>, AllocError>
-    ensures { IfOk result (λ command. app_of command ≡ idltool) }
-{
-    let explain = explain_command(alloc)?;
-    let command = bare(alloc).subcommand(explain)?;
-    let deps = deps_command(alloc)?;
-    let command = command.subcommand(deps)?;
-    let check = check_command(alloc)?;
-    let command = command.subcommand(check)?;
-    let json = json_command(alloc)?;
-    let command = command.subcommand(json)?;
-    let diff = diff_command(alloc)?;
-    let command = command.subcommand(diff)?;
-    let lsp = lsp_command(alloc)?;
-    command.subcommand(lsp)
-}
-
-// The program without a subcommand.
-fn bare<'a>(alloc: Global) -> Command<'a>
-    ensures { app_of result ≡ bare }
-{
-    Command::new(alloc, "idltool")
-        .no_binary_name(true)
-        .subcommand_required(true)
-        .arg_required_else_help(true)
-        .version("0.1.0")
-        .about(
-            "Checks files, tells what the rows of idlc mean, what files stand on and what changes from one to another, and writes JSON.",
-        )
-        .after_help(
-            "The status is 0; or 1 where a FILE has errors, or a change is one; or 2 for wrong words and other trouble, which standard error tells.",
-        )
-}
-
-fn explain_command<'a>(alloc: Global) -> Result<Command<'a>, AllocError>
-    ensures shape { IfOk result (λ command. shape_of command ≡ explain_shape) }
-    ensures local { IfOk result (λ command. (fields_of command).has_globals ≡ false) }
-{
-    Command::new(alloc, "explain")
-        .about("Explains codes of rows, and refusals, with examples")
-        .override_usage("idltool explain [CODE|NUMBER]..")
-        .arg(word(alloc))
-}
-
-fn deps_command<'a>(alloc: Global) -> Result<Command<'a>, AllocError>
-    ensures shape { IfOk result (λ command. shape_of command ≡ deps_shape) }
-    ensures local { IfOk result (λ command. (fields_of command).has_globals ≡ false) }
-{
-    let command = Command::new(alloc, "deps")
-        .about("Writes a rule of make for each FILE: what the FILE stands on")
-        .override_usage("idltool deps [OPTIONS] FILE..");
-    with_options(alloc, command)?
-        .arg(target(alloc))?
-        .arg(generated(alloc))?
-        .arg(present(alloc))?
-        .arg(file(alloc))
-}
-
-fn check_command<'a>(alloc: Global) -> Result<Command<'a>, AllocError>
-    ensures shape { IfOk result (λ command. shape_of command ≡ check_shape) }
-    ensures local { IfOk result (λ command. (fields_of command).has_globals ≡ false) }
-{
-    let command = Command::new(alloc, "check")
-        .about("Tells the errors and warnings of each FILE, with their lines")
-        .override_usage("idltool check [OPTIONS] FILE..");
-    with_options(alloc, command)?
-        .arg(werror(alloc))?
-        .arg(file(alloc))
-}
-
-fn json_command<'a>(alloc: Global) -> Result<Command<'a>, AllocError>
-    ensures shape { IfOk result (λ command. shape_of command ≡ json_shape) }
-    ensures local { IfOk result (λ command. (fields_of command).has_globals ≡ false) }
-{
-    let command = Command::new(alloc, "json")
-        .about(
-            "Writes what each FILE has as JSON, an object on a line: what is found, and what is declared",
-        )
-        .override_usage("idltool json [OPTIONS] FILE..");
-    with_options(alloc, command)?.arg(file(alloc))
-}
-
-fn diff_command<'a>(alloc: Global) -> Result<Command<'a>, AllocError>
-    ensures shape { IfOk result (λ command. shape_of command ≡ diff_shape) }
-    ensures local { IfOk result (λ command. (fields_of command).has_globals ≡ false) }
-{
-    let command = Command::new(alloc, "diff")
-        .about("Tells what changes from one version of a FILE to another, and for whom it counts")
-        .override_usage("idltool diff [OPTIONS] OLD NEW");
-    with_options(alloc, command)?
-        .arg(old_directory(alloc))?
-        .arg(new_directory(alloc))?
-        .arg(fails(alloc))?
-        .arg(format(alloc))?
-        .arg(old_file(alloc))?
-        .arg(new_file(alloc))
-}
-
-fn lsp_command<'a>(alloc: Global) -> Result<Command<'a>, AllocError>
-    ensures shape { IfOk result (λ command. shape_of command ≡ lsp_shape) }
-    ensures local { IfOk result (λ command. (fields_of command).has_globals ≡ false) }
-{
-    Command::new(alloc, "lsp")
-        .about("Serves an editor over standard input and output, as a language server")
-        .override_usage("idltool lsp [--stdio]")
-        .arg(stdio(alloc))
-}
-
-fn word<'a>(alloc: Global) -> Arg<'a>
-    ensures rule { rule_of result ≡ word_rule }
-    ensures global { result.global ≡ false }
-{
-    Arg::new(alloc, "word")
-        .value_name("CODE|NUMBER")
-        .action(ArgAction::Append)
-        .help("A code, as E35, or the number of a refusal; without it all are told, in a line each")
-}
-
-fn target<'a>(alloc: Global) -> Arg<'a>
-    ensures rule { rule_of result ≡ target_rule }
-    ensures global { result.global ≡ false }
-{
-    Arg::new(alloc, "target")
-        .short('t')
-        .value_name("TARGET")
-        .action(ArgAction::Set)
-        .help("The target of each rule, in the place of FILE with .listing for .idl")
-}
-
-fn generated<'a>(alloc: Global) -> Arg<'a>
-    ensures rule { rule_of result ≡ generated_rule }
-    ensures global { result.global ≡ false }
-{
-    Arg::new(alloc, "generated")
-        .long("generated")
-        .action(ArgAction::Count)
-        .help("Takes each file that isn't there for one that another rule makes")
-}
-
-fn present<'a>(alloc: Global) -> Arg<'a>
-    ensures rule { rule_of result ≡ present_rule }
-    ensures global { result.global ≡ false }
-{
-    Arg::new(alloc, "present")
-        .long("present")
-        .action(ArgAction::Count)
-        .help("Leaves out each file that isn't there, as for ninja, CMake and Meson")
-}
-
-fn werror<'a>(alloc: Global) -> Arg<'a>
-    ensures rule { rule_of result ≡ werror_rule }
-    ensures global { result.global ≡ false }
-{
-    Arg::new(alloc, "werror")
-        .long("werror")
-        .action(ArgAction::Count)
-        .help("Ends with the status 1 where there are warnings, too")
-}
-
-fn stdio<'a>(alloc: Global) -> Arg<'a>
-    ensures rule { rule_of result ≡ stdio_rule }
-    ensures global { result.global ≡ false }
-{
-    Arg::new(alloc, "stdio")
-        .long("stdio")
-        .action(ArgAction::Count)
-        .help("Changes nothing: some clients add it")
-}
-
-fn file<'a>(alloc: Global) -> Arg<'a>
-    ensures rule { rule_of result ≡ record file_rule { required = true } }
-    ensures global { result.global ≡ false }
-{
-    Arg::new(alloc, "file")
-        .value_name("FILE")
-        .required(true)
-        .action(ArgAction::Append)
-        .help("A file to compile")
-}
-
-fn old_directory<'a>(alloc: Global) -> Arg<'a>
-    ensures rule { rule_of result ≡ side_rule (codes "old-directory") (codes "old-I") }
-    ensures global { result.global ≡ false }
-{
-    Arg::new(alloc, "old-directory")
-        .long("old-I")
-        .value_name("DIR")
-        .action(ArgAction::Append)
-        .help("Searches DIR, before those of -I, for files that OLD includes")
-}
-
-fn new_directory<'a>(alloc: Global) -> Arg<'a>
-    ensures rule { rule_of result ≡ side_rule (codes "new-directory") (codes "new-I") }
-    ensures global { result.global ≡ false }
-{
-    Arg::new(alloc, "new-directory")
-        .long("new-I")
-        .value_name("DIR")
-        .action(ArgAction::Append)
-        .help("Searches DIR, before those of -I, for files that NEW includes")
-}
-
-fn fails<'a>(alloc: Global) -> Arg<'a>
-    ensures rule { rule_of result ≡ fails_rule }
-    ensures global { result.global ≡ false }
-{
-    Arg::new(alloc, "fail-on")
-        .long("fail-on")
-        .value_name("WEIGHT[,WEIGHT..]")
-        .action(ArgAction::Set)
-        .help("The weights of a change that is an error, or never; without it wire,client")
-}
-
-fn format<'a>(alloc: Global) -> Arg<'a>
-    ensures rule { rule_of result ≡ format_rule }
-    ensures global { result.global ≡ false }
-{
-    Arg::new(alloc, "format")
-        .long("format")
-        .value_name("FORMAT")
-        .action(ArgAction::Set)
-        .help("How a change is written: text, a row, or json, an object on a line; without it text")
-}
-
-fn old_file<'a>(alloc: Global) -> Arg<'a>
-    ensures rule { rule_of result ≡ version_rule (codes "old") }
-    ensures global { result.global ≡ false }
-{
-    Arg::new(alloc, "old")
-        .value_name("OLD")
-        .required(true)
-        .action(ArgAction::Set)
-        .help("The file as it was")
-}
-
-fn new_file<'a>(alloc: Global) -> Arg<'a>
-    ensures rule { rule_of result ≡ version_rule (codes "new") }
-    ensures global { result.global ≡ false }
-{
-    Arg::new(alloc, "new")
-        .value_name("NEW")
-        .required(true)
-        .action(ArgAction::Set)
-        .help("The file as it is")
-}
-
 fn check_of<'a>(alloc: Global, matches: &ArgMatches<'a>) -> Result<Check<'a>, AllocError>
     ensures { IfOk result (AreCheckOf (rows_of (found_of matches.now))) }
 {
@@ -424,6 +175,9 @@ fn forms_of(matches: &ArgMatches<'_>) -> Option<(Weights, bool)>
         (λ forms. (fails_in (rows_of (found_of matches.now)) ≡ Some forms.0)
         × (json_in (rows_of (found_of matches.now)) ≡ Some forms.1)) }
 {
+    if !has_versions(matches) {
+        return None;
+    }
     match fails_of(matches) {
         Some(fails) => match json_of(matches) {
             Some(is_json) => Some((fails, is_json)),
@@ -433,8 +187,29 @@ fn forms_of(matches: &ArgMatches<'_>) -> Option<(Weights, bool)>
     }
 }
 
+// Whether there are OLD and NEW, or `--old`.
+fn has_versions(matches: &ArgMatches<'_>) -> bool
+    ensures { result ≡ has_versions (rows_of (found_of matches.now)) }
+{
+    let has_two = files_count(matches) == 2;
+    below_of(matches).is_some() || has_two
+}
+
+// How many FILEs there are.
+fn files_count(matches: &ArgMatches<'_>) -> usize
+    ensures { result ≡ length (files_in (rows_of (found_of matches.now))) }
+{
+    match matches.get_strs("file") {
+        Some(given) => given.len(),
+        None => 0,
+    }
+}
+
 // What is told where one of them can't be read.
 fn wrong_forms(matches: &ArgMatches<'_>) -> &'static str {
+    if !has_versions(matches) {
+        return "error: OLD and NEW are wanted, or --old DIR and FILEs\n\nUsage: idltool diff [OPTIONS] OLD NEW\n       idltool diff [OPTIONS] --old DIR FILE..\n";
+    }
     if fails_of(matches).is_none() {
         return "--fail-on: never, or of wire, client, servant, names and new, with commas between";
     }
@@ -451,49 +226,12 @@ fn diff_of<'a>(
 
     ensures { IfOk result (AreDiffOf (rows_of (found_of matches.now))) }
 {
-    let old = side_of(alloc, matches, "old", "old-directory")?;
-    let new = side_of(alloc, matches, "new", "new-directory")?;
+    let old = old_side(alloc, matches)?;
+    let new = new_side(alloc, matches)?;
     Ok(Diff {
         old,
         new,
         fails: forms.0,
         is_json: forms.1,
     })
-}
-
-// What is asked for of the file that this argument names, and of which this option has the directories.
-fn side_of<'a>(
-    alloc: Global,
-    matches: &ArgMatches<'a>,
-    file: &str,
-    directory: &str,
-) -> Result<Options<'a>, AllocError>
-    ensures { IfOk result
-        (AreSideOf file.now directory.now (rows_of (found_of matches.now))) }
-{
-    let mut directories = values_of(alloc, matches, directory)?;
-    directories.extend_from_slice(&values_of(alloc, matches, "directory")?)?;
-    Ok(Options {
-        defines: values_of(alloc, matches, "define")?,
-        undefines: values_of(alloc, matches, "undefine")?,
-        directories,
-        files: file_of(alloc, matches, file)?,
-        shows_dump: false,
-        shows_listing: false,
-    })
-}
-
-// The file that an argument names, if it does.
-fn file_of<'a>(
-    alloc: Global,
-    matches: &ArgMatches<'a>,
-    id: &str,
-) -> Result<Vec<&'a str>, AllocError>
-    ensures { IfOk result (λ files. map (λ f. f.now) files.items
-        ≡ option_to_list (first_of id.now (rows_of (found_of matches.now)))) }
-{
-    match matches.get_str(id) {
-        Some(file) => Vec::from_slice(alloc, &[file]),
-        None => Ok(Vec::new(alloc)),
-    }
 }

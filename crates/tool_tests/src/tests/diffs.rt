@@ -4,7 +4,7 @@ use super::support::{are_given, is_given};
 use std::alloc::Global;
 use std::test::Fail;
 
-static ROWS: [&str; 4] = [
+static ROWS: [&str; 5] = [
     // Two versions, of which the order of what is raised alone tells nothing.
     "idltool diff old.idl new.idl => old.idl: module Bank { enum Kind { PLAIN, SILVER }; exception Low { }; exception No { }; | interface \
      Account { | void draw(in long amount) raises (Low, No); | long balance(); | }; | }; ¶ new.idl: module Bank { | enum Kind { PLAIN, \
@@ -17,6 +17,10 @@ static ROWS: [&str; 4] = [
     "idltool diff -Ii --old-I o --new-I n a.idl b.idl => a.idl: #include <h> ¶ b.idl: #include <h> ¶ i/h: typedef octet T; ¶ o/h: typedef \
      long T; ¶ n/h: typedef short T; => 1 out n/h:1:15: error: alias T: type, long -> short [wire,client,servant] /\nidltool diff --new-I \
      n -Ii a.idl a.idl => a.idl: #include <h> ¶ i/h ¶ n/h: typedef long T; => 0 out n/h:1:14: note: alias T: is new [new] /",
+    // Several files, of which another directory has the old version: what both include is told once, and what moves isn't gone.
+    "idltool diff --old v -I. a b => v/a: #include <h> ¶ v/b: #include <h> | struct M { long x; }; ¶ v/h: struct S { long x; }; ¶ a: \
+     #include <h> | struct M { long x; }; ¶ b: #include <h> ¶ h: struct S { short x; }; => 1 out h:1:8: error: struct S: type of member x, \
+     long -> short [wire,client,servant] /",
     // Of faulty versions no change is told, but what is found in both.
     "idltool diff a.idl b.idl => a.idl: interface F; ¶ b.idl: typedef No X; => 2 err a.idl:1:11: warning: the interface `F` is declared \
      forward and never defined [W80] /interface F; /          ^ /b.idl:1:9: error: `No` isn't declared here or in a scope around [E30] \

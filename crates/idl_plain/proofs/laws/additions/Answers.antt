@@ -1,4 +1,4 @@
-use Rattle.idl_plain.proofs.AdditionLaws.{answers-told, keys-told, operations-told, turns-needed, turns-told}
+use Rattle.idl_plain.proofs.AdditionLaws.{answers-over, inherited-told, keys-told, operations-told, turns-needed, turns-told}
 use Rattle.idl_plain.proofs.laws.additions.Goals as goal
 
 pub returns-clause-turns : goal.returns-clause-turns
@@ -11,7 +11,10 @@ pub returns-clause-keys : goal.returns-clause-keys
 returns-clause-keys c = keys-told
 
 pub returns-clause-answers : goal.returns-clause-answers
-returns-clause-answers c = answers-told
+returns-clause-answers c = answers-over
 
 pub returns-clause-operations : goal.returns-clause-operations
 returns-clause-operations c = operations-told
+
+pub returns-clause-inherited : goal.returns-clause-inherited
+returns-clause-inherited c = inherited-told

@@ -1,4 +1,4 @@
-use Rattle.idl_plain.proofs.TableLaws.{integers-told, types-spelled, types-told}
+use Rattle.idl_plain.proofs.TableLaws.{basics-spelled, basics-told, integers-told, types-spelled, types-told}
 use Rattle.idl_plain.proofs.tables.types.Goals as goal
 
 pub returns-clause-words : goal.returns-clause-words
@@ -15,3 +15,9 @@ returns-clause-spelled c = types-spelled
 
 pub returns-clause-kinds : goal.returns-clause-kinds
 returns-clause-kinds c = types-told
+
+pub returns-clause-basics : goal.returns-clause-basics
+returns-clause-basics c = basics-spelled
+
+pub returns-clause-elements : goal.returns-clause-elements
+returns-clause-elements c = basics-told

@@ -17,16 +17,16 @@ returns c =
     let root = c.args.root.now in
     let one = c.args.compiled.now in
     let related = c.in_ok-related.related in
-    let told = map told_at c.in_ok-told-2.told.items in
+    let told = map told_at c.in_ok-told.told.items in
     let before = c.args.reports.now.entries in
     let after = c.add_reports.new.reports.entries in
-    let is = c.in_ok-told-2.ensures ∙ ap (λ ts. in_order (map told_at ts)) c.deref.ensures.value ∙ ap in_order (c.in_ok-told.ensures ∙ ap₂ zip c.as_slice-findings.ensures c.as_slice.ensures) in
+    let is = c.in_ok-told.ensures ∙ ap₂ (λ fs rs. in_order (zip fs rs)) c.as_slice-findings.ensures c.as_slice.ensures in
     let of = told-root inputs root one related told c.requires (subst (λ fs. AreRelatedOver (bank_of inputs) root fs related) c.as_slice-findings.ensures c.in_ok-related.ensures) is in
     on_ok_weaker c.add_reports.result
     (λ reported. (
       told,
       of,
       subst (λ fs. AreReported fs told before after) c.columns-columns.ensures
-          (subst (λ ts. AreReported c.columns-columns.result (map told_at ts) before after) c.deref-2.ensures.value reported),
+          (subst (λ ts. AreReported c.columns-columns.result (map told_at ts) before after) c.deref.ensures.value reported),
     ))
     c.add_reports.ensures

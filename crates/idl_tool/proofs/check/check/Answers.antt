@@ -1,53 +1,15 @@
-use Rattle.std.proofs.Common.{◌∙◌, ℕ, List, ap, if◌then◌else◌, map, subst, sym}
-use Rattle.idl_source.specs.devices.Device.{append}
-use Rattle.idl_driver.specs.idl_sources.Compile.{compiled_root}
-use Rattle.idl_driver.specs.idl_sources.declared.compile.CompiledRoot.{CompiledRoot}
-use Rattle.idl_driver.proofs.ToldLemmas.{writes-none, writes-part}
+use Rattle.std.proofs.lemmas.Result.{IfOk-weaker}
+use Rattle.idl_driver.proofs.ToldLemmas.{writes-none}
 use Rattle.idl_loader.proofs.ReplyLemmas.{on_err}
-use Rattle.idl_loader.specs.declared.status.Status.{Status}
-use Rattle.idl_loader.specs.declared.status.Status.TheVariants.{Faulty, Sound}
-use Rattle.idl_tool.specs.Checked.{AreToldOf, are_faults}
-use Rattle.idl_tool.specs.Messages.{ended_by}
 use Rattle.idl_tool.proofs.check.check.Goals as goal
 
-pub report_text-requires : goal.report_text-requires
-report_text-requires g c =
-    c.deref-2.ensures.value ∙ c.in_ok-all.ensures.compiled.compiled ∙ ap (map (compiled_root c.in_ok-all.all.sound.sources)) (sym c.deref.ensures.value)
+pub write_reports-status-requires-clause-compiled : goal.write_reports-status-requires-clause-compiled
+write_reports-status-requires-clause-compiled g c = c.in_ok-all.ensures.compiled.compiled
 
 pub returns-clause-checked : goal.returns-clause-checked
 returns-clause-checked g c =
-    let all = c.in_ok-all.all in
-    let is = c.in_ok-all.ensures.compiled in
-    let text = c.in_ok-text.ensures in
-    let counts = c.args.asked.now.counts_warnings in
-    record {
-      all = all;
-      files = is;
-      reports = record {
-        told = text.0;
-        each = subst (λ (rs : List (List ℕ)). AreToldOf all.sound.sources rs text.0) c.deref.ensures.value text.1;
-        reports = text.2;
-        reported = text.3;
-        output = c.in_ok-write_all-2.ensures.written ∙ ap (append (g.O.Sink.written c.args.devices.now.output)) (c.deref-5.ensures.value ∙ text.4);
-        trouble = c.in_ok-trouble.trouble.items;
-        troubles = c.in_ok-trouble.ensures;
-        errors = c.in_ok-write_all.ensures.written ∙ ap (append (g.E.Sink.written c.args.devices.now.errors)) c.deref-4.ensures.value;
-        ending = c.ended_by-status.ensures ∙ ap (λ (s : Status). ended_by all s)
-            (c.ending_of-status.ensures ∙ ap (λ (rs : List CompiledRoot). if are_faults counts rs then Faulty else Sound) (c.deref-3.ensures.value ∙ is.compiled));
-      };
-    }
+    IfOk-weaker c.write_reports-status.result _ _
+    (λ status are. record { all = c.in_ok-all.all; files = c.in_ok-all.ensures.compiled; reports = are }) c.write_reports-status.ensures.reported
 
 pub returns-in_err-all-clause-until : goal.returns-in_err-all-clause-until
 returns-in_err-all-clause-until g c = on_err c.from_residual.result (writes-none (g.E.Sink.written c.args.devices.now.errors))
-
-pub returns-in_err-trouble-clause-until : goal.returns-in_err-trouble-clause-until
-returns-in_err-trouble-clause-until g c = on_err c.from_residual-in_err-trouble.result (writes-none (g.E.Sink.written c.args.devices.now.errors))
-
-pub returns-in_err-text-clause-until : goal.returns-in_err-text-clause-until
-returns-in_err-text-clause-until g c = on_err c.from_residual-in_err-text.result (writes-none (g.E.Sink.written c.args.devices.now.errors))
-
-pub returns-in_err-write_all-clause-until : goal.returns-in_err-write_all-clause-until
-returns-in_err-write_all-clause-until g c = on_err c.from_residual-in_err-write_all.result (writes-part _ _ _ c.in_err-write_all.ensures.part)
-
-pub returns-in_err-write_all-2-clause-until : goal.returns-in_err-write_all-2-clause-until
-returns-in_err-write_all-2-clause-until g c = on_err c.from_residual-in_err-write_all-2.result (_, c.in_ok-write_all.ensures.written)

@@ -1,4 +1,4 @@
-use Rattle.std.proofs.Common.{◌≡◌, ◌∙◌, ◌++◌, ℕ, Bor, List, ap, subst}
+use Rattle.std.proofs.Common.{◌∙◌, ◌++◌, ℕ, Bor, List, ap, subst}
 use Rattle.idl_driver.specs.declared.failure.CompileFault.{CompileFault}
 use Rattle.idl_tool.specs.Messages.{AreLines, IsFaultMessage, IsNamelessMessage}
 use Rattle.idl_tool.proofs.faults.troubles_text.Goals as goal

@@ -1,4 +1,4 @@
-use Rattle.std.proofs.Common.{◌≡◌, ◌∙◌, ◌++◌, ℕ, List, ap, arith, length, min, take}
+use Rattle.std.proofs.Common.{◌≡◌, ◌∙◌, ◌++◌, ap, arith, length, min, take}
 use Rattle.std.proofs.lemmas.List.{take_min}
 use Rattle.bstr.specs.Utf8.{decoded}
 use Rattle.idl_tool.specs.Report.{shown_piece}

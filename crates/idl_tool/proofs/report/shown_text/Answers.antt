@@ -1,4 +1,4 @@
-use Rattle.std.proofs.Common.{◌≡◌, ◌∙◌, ◌+◌, ◌-◌, ◌<◌, ◌++◌, ℕ, List, ap, append_assoc, arith, drop, length, sym, take}
+use Rattle.std.proofs.Common.{◌∙◌, ◌+◌, ◌-◌, ◌<◌, ◌++◌, ℕ, List, ap, append_assoc, arith, drop, length, sym, take}
 use Rattle.std.proofs.lemmas.List.{append-nil}
 use Rattle.idl_tool.specs.Report.{shown_first, shown_text}
 use Rattle.idl_tool.proofs.ShownLemmas.{piece-within, shown-end, shown-more}

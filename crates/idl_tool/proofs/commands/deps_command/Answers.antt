@@ -1,0 +1,26 @@
+use Rattle.std.proofs.Common.{◌≡◌, ◌∙◌, ap, ap₂, codes}
+use Rattle.std.proofs.lemmas.Result.{IfOk-weaker}
+use Rattle.clap.specs.Words.{App, app_of, new_app, with_rule}
+use Rattle.clap.specs.Simple.{app_of_fields}
+use Rattle.idl_driver.specs.Words.{option_rules, with_rules}
+use Rattle.idl_tool.proofs.RequestLemmas.{has_globals_of, local-more, top_of}
+use Rattle.idl_tool.proofs.commands.deps_command.Goals as goal
+
+pub returns-clause-shape : goal.returns-clause-shape
+returns-clause-shape c =
+    let named : app_of c.about.result ≡ new_app (codes "deps") = ap app_of_fields c.about.ensures ∙ c.new.ensures.app in
+    let used : app_of c.override_usage-command.result ≡ new_app (codes "deps") = ap app_of_fields c.override_usage-command.ensures ∙ named in
+    let options = c.in_ok-with_options.ensures.rules ∙ ap (λ (a : App). with_rules a option_rules) used in
+    let target = c.in_ok-arg.ensures.shape c.target.ensures.global ∙ ap₂ with_rule options c.target.ensures.rule in
+    let generated = c.in_ok-arg-2.ensures.shape c.generated.ensures.global ∙ ap₂ with_rule target c.generated.ensures.rule in
+    let present = c.in_ok-arg-3.ensures.shape c.present.ensures.global ∙ ap₂ with_rule generated c.present.ensures.rule in
+    IfOk-weaker c.arg-4.result _ _ (λ r adds. ap top_of (adds.shape c.file.ensures.global ∙ ap₂ with_rule present c.file.ensures.rule)) c.arg-4.ensures
+
+pub returns-clause-local : goal.returns-clause-local
+returns-clause-local c =
+    let local = ap has_globals_of c.override_usage-command.ensures ∙ (ap has_globals_of c.about.ensures ∙ c.new.ensures.local) in
+    let options = c.in_ok-with_options.ensures.local ∙ local in
+    let target = c.in_ok-arg.ensures.globals ∙ local-more _ _ options c.target.ensures.global in
+    let generated = c.in_ok-arg-2.ensures.globals ∙ local-more _ _ target c.generated.ensures.global in
+    let present = c.in_ok-arg-3.ensures.globals ∙ local-more _ _ generated c.present.ensures.global in
+    IfOk-weaker c.arg-4.result _ _ (λ r adds. adds.globals ∙ local-more _ _ present c.file.ensures.global) c.arg-4.ensures

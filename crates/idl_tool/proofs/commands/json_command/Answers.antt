@@ -1,0 +1,20 @@
+use Rattle.std.proofs.Common.{◌≡◌, ◌∙◌, ap, ap₂, codes}
+use Rattle.std.proofs.lemmas.Result.{IfOk-weaker}
+use Rattle.clap.specs.Words.{App, app_of, new_app, with_rule}
+use Rattle.clap.specs.Simple.{app_of_fields}
+use Rattle.idl_driver.specs.Words.{option_rules, with_rules}
+use Rattle.idl_tool.proofs.RequestLemmas.{has_globals_of, local-more, top_of}
+use Rattle.idl_tool.proofs.commands.json_command.Goals as goal
+
+pub returns-clause-shape : goal.returns-clause-shape
+returns-clause-shape c =
+    let named : app_of c.about.result ≡ new_app (codes "json") = ap app_of_fields c.about.ensures ∙ c.new.ensures.app in
+    let used : app_of c.override_usage-command.result ≡ new_app (codes "json") = ap app_of_fields c.override_usage-command.ensures ∙ named in
+    let options = c.in_ok-with_options.ensures.rules ∙ ap (λ (a : App). with_rules a option_rules) used in
+    IfOk-weaker c.arg.result _ _ (λ r adds. ap top_of (adds.shape c.file.ensures.global ∙ ap₂ with_rule options c.file.ensures.rule)) c.arg.ensures
+
+pub returns-clause-local : goal.returns-clause-local
+returns-clause-local c =
+    let local = ap has_globals_of c.override_usage-command.ensures ∙ (ap has_globals_of c.about.ensures ∙ c.new.ensures.local) in
+    let options = c.in_ok-with_options.ensures.local ∙ local in
+    IfOk-weaker c.arg.result _ _ (λ r adds. adds.globals ∙ local-more _ _ options c.file.ensures.global) c.arg.ensures
