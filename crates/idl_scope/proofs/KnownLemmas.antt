@@ -1,5 +1,5 @@
 -- What is asked for typeprefixes, scope after scope, and what comes of it.
-use Rattle.std.proofs.Common.{◌≡◌, ◌∙◌, ◌+◌, ℕ, List, [], ◌∷◌, Option, Some, None, ap, length, map, refl}
+use Rattle.std.proofs.Common.{◌≡◌, ◌∙◌, ℕ, List, [], ◌∷◌, Option, Some, None, ap, arith, length, map, refl}
 use Rattle.idl_memo.specs.Query.{Done, asked, noted, outcome}
 use Rattle.idl_env.specs.Facts.{typeprefix_in}
 use Rattle.idl_env.specs.answering.Walked.{entries_outward}
@@ -43,7 +43,7 @@ module _ (bank : Key → Option Answer) (none : (path : List (List ℕ)) → ban
   -- one for each name of the path
   pub outward_long : (path : List (List ℕ)) → length (asked (typeprefix_around path) bank) ≡ length path
   outward_long [] = refl
-  outward_long (name ∷ scope) = ap length (typeprefix_asked name scope) ∙ ap (λ n. 1 + n) (outward_long scope)
+  outward_long (name ∷ scope) = omega (arith, ap length (typeprefix_asked name scope), outward_long scope)
 
   -- each with no answer
   pub outward_entries : (path : List (List ℕ)) → map (λ k. (k, bank k)) (asked (typeprefix_around path) bank) ≡ entries_outward path
