@@ -8,10 +8,10 @@ use Rattle.idl_tool.proofs.DiffLemmas.{version-of}
 use Rattle.idl_tool.proofs.diff.write_diff.Goals as goal
 
 pub write_compared-status-requires-clause-first : goal.write_compared-status-requires-clause-first
-write_compared-status-requires-clause-first g c = c.in_ok-old.ensures.compiled.compiled
+write_compared-status-requires-clause-first g c = c.in_ok-old.ensures.compiled
 
 pub write_compared-status-requires-clause-second : goal.write_compared-status-requires-clause-second
-write_compared-status-requires-clause-second g c = c.in_ok-new.ensures.compiled.compiled
+write_compared-status-requires-clause-second g c = c.in_ok-new.ensures.compiled
 
 pub returns-clause-compared : goal.returns-clause-compared
 returns-clause-compared g c =
@@ -21,8 +21,11 @@ returns-clause-compared g c =
     (λ status are. record {
       old = seen old;
       new = seen new;
-      old_is = version-of _ c.args.diff.now.old old c.in_ok-old.ensures.compiled;
-      new_is = subst (λ (told : List ℕ → Holding). IsVersion told c.args.diff.now.new (seen new)) c.in_ok-old.ensures.still (version-of _ c.args.diff.now.new new c.in_ok-new.ensures.compiled);
+      old_files = map now c.in_ok-was.was.items;
+      new_files = map now c.in_ok-was.is.items;
+      there = c.in_ok-was.ensures.there;
+      old_is = c.in_ok-old.ensures.version;
+      new_is = c.in_ok-new.ensures.version;
       compared = are;
     }) c.write_compared-status.ensures.compared
 
