@@ -11,32 +11,13 @@ use Rattle.idl_changes.specs.Laws.{NoneHas}
 use Rattle.idl_changes.specs.declared.change.Change.{Change}
 use Rattle.idl_changes.specs.declared.rows.Weights.{Weights}
 use Rattle.idl_source.specs.devices.Device.{append}
-use Rattle.idl_driver.specs.Compilations.{IsCompilation, HasCompiled}
-use Rattle.idl_loader.specs.Holding.{Holding}
+use Rattle.idl_driver.specs.Compilations.{HasCompiled}
 use Rattle.idl_loader.specs.Lines.{whole_line}
-use Rattle.idl_driver.specs.Options.{defined_by, named_by, searched_by, undefined_by}
 use Rattle.idl_driver.specs.Rows.{are_faulty}
-use Rattle.idl_driver.specs.declared.options.Options.{Options}
 use Rattle.idl_driver.specs.declared.compilation.Compilation.{Compilation}
 use Rattle.idl_loader.specs.declared.status.Status.TheVariants.{Failed, Faulty, Sound}
-use Rattle.idl_tool.specs.Compared.{IsVersion, Version, are_failing, ending_by, ending_of, has_error, lines_between, seen, shown_between}
+use Rattle.idl_tool.specs.Compared.{Version, are_failing, ending_by, ending_of, has_error, lines_between, seen, shown_between}
 use Rattle.idl_tool.proofs.DepsLemmas.{ending-of}
-
--- what options ask for, compiled, is the version that others of the same macros and directories ask for
-pub version-of : (told : List ℕ → Holding) (options asked : Options) (files : List (List ℕ)) (all : Compilation)
-    → map (λ w. w.now) asked.defines.items ≡ map (λ w. w.now) options.defines.items → map (λ w. w.now) asked.undefines.items ≡ map (λ w. w.now) options.undefines.items
-    → map (λ w. w.now) asked.directories.items ≡ map (λ w. w.now) options.directories.items → map (λ w. w.now) asked.files.items ≡ files
-    → IsCompilation told asked all → IsVersion told options files (seen all)
-version-of told options asked files all defines undefines directories given is = record {
-  over = record {
-    macros = is.asked.over.macros ∙ ap₂ (λ (ds us : List (List ℕ)). undefined_by (defined_by [] ds) us) defines undefines;
-    search = ap (searched_by []) (sym directories) ∙ is.asked.over.search;
-  };
-  named = ap (named_by []) (sym given) ∙ is.asked.named;
-  formed = is.formed;
-  loaded = is.loaded;
-  complete = is.complete;
-}
 
 -- whether one of two versions has an error, by what they compile to
 pub error-of : (old new : Compilation) → HasCompiled old → HasCompiled new

@@ -28,7 +28,7 @@ use Rattle.idl_driver.specs.declared.options.Options.{Options}
 use Rattle.idl_tool.specs.Checked.{IsReportText}
 use Rattle.idl_tool.specs.Json.{rows_of}
 use Rattle.idl_tool.specs.Report.{place_text}
-use Rattle.idl_tool.specs.There.{AreThere}
+use Rattle.idl_tool.specs.There.{AreThere, files_of}
 use Rattle.idl_tool.specs.declared.request.Diff.{Diff}
 
 -- where a row is declared, if that is known, and its path
@@ -174,7 +174,8 @@ pub record IsCompared (told : List ℕ → Holding) (diff : Diff) (before after 
   pub new : Version
   pub old_files : List (List ℕ)
   pub new_files : List (List ℕ)
-  pub there : AreThere diff.are_pairs told diff.old diff.new old_files new_files
+  pub there : AreThere diff.are_pairs told (files_of diff.old) (files_of diff.new) old_files
+      new_files
   pub old_is : IsVersion told diff.old old_files old
   pub new_is : IsVersion told diff.new new_files new
   pub compared : AreCompared diff.is_json diff.fails old new before after status

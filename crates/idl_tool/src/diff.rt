@@ -54,9 +54,9 @@ pub fn write_diff<'a, L: Loader, S, O: Sink, E: Sink>(
     ensures until { OnErr result
         (WritesSome (E.written devices.old.errors) (E.written devices.new.errors)) }
 {
-    let (was, is) = files_there(alloc, diff, &mut devices.loader)?;
-    let old = compile_version(alloc, &diff.old, &was, &mut devices.loader)?;
-    let new = compile_version(alloc, &diff.new, &is, &mut devices.loader)?;
+    let (old_files, new_files) = files_there(alloc, diff, &mut devices.loader)?;
+    let old = compile_version(alloc, &diff.old, &old_files, &mut devices.loader)?;
+    let new = compile_version(alloc, &diff.new, &new_files, &mut devices.loader)?;
     let status = write_compared(diff, &old, &new, devices);
     // The program ends here, and all memory goes back at once.
     forget((old, new));
