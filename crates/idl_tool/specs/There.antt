@@ -12,7 +12,8 @@ Has told false = Allows told NoFile
 
 -- and this is the file to which a FILE leads
 abbrev pub IsHad : (List ℕ → Holding) → List ℕ → Bool → Type 0
-IsHad told file is = (name : List ℕ) × (joined_path (codes ".") file ≡ Some name) × Has (told name) is
+IsHad told file is =
+    (name : List ℕ) × (joined_path (codes ".") file ≡ Some name) × Has (told name) is
 
 -- FILEs of a version without those that it hasn't and the other one has
 abbrev pub kept : (had others : List Bool) → List (List ℕ) → List (List ℕ)
