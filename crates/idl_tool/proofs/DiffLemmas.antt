@@ -11,19 +11,13 @@ use Rattle.idl_changes.specs.Laws.{NoneHas}
 use Rattle.idl_changes.specs.declared.change.Change.{Change}
 use Rattle.idl_changes.specs.declared.rows.Weights.{Weights}
 use Rattle.idl_source.specs.devices.Device.{append}
-use Rattle.idl_driver.specs.Compilations.{IsCompilation, HasCompiled}
-use Rattle.idl_loader.specs.Holding.{Holding}
+use Rattle.idl_driver.specs.Compilations.{HasCompiled}
 use Rattle.idl_loader.specs.Lines.{whole_line}
 use Rattle.idl_driver.specs.Rows.{are_faulty}
-use Rattle.idl_driver.specs.declared.options.Options.{Options}
 use Rattle.idl_driver.specs.declared.compilation.Compilation.{Compilation}
 use Rattle.idl_loader.specs.declared.status.Status.TheVariants.{Failed, Faulty, Sound}
-use Rattle.idl_tool.specs.Compared.{IsVersion, Version, are_failing, ending_by, ending_of, has_error, lines_between, seen, shown_between}
+use Rattle.idl_tool.specs.Compared.{Version, are_failing, ending_by, ending_of, has_error, lines_between, seen, shown_between}
 use Rattle.idl_tool.proofs.DepsLemmas.{ending-of}
-
--- what options ask for, compiled, is the version that they ask for
-pub version-of : (told : List ℕ → Holding) (options : Options) (all : Compilation) → IsCompilation told options all → IsVersion told options (seen all)
-version-of told options all is = record { asked = is.asked; formed = is.formed; loaded = is.loaded; complete = is.complete }
 
 -- whether one of two versions has an error, by what they compile to
 pub error-of : (old new : Compilation) → HasCompiled old → HasCompiled new

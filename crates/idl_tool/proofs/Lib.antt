@@ -9,3 +9,4 @@ mod OnceLemmas
 mod RequestLemmas
 mod RuleLemmas
 mod ShownLemmas
+mod ThereLemmas

@@ -20,7 +20,7 @@ use Rattle.idl_driver.specs.Written.{Written}
 use Rattle.idl_driver.specs.Compiled.{is_faulty}
 use Rattle.idl_loader.specs.Holding.{Holding}
 use Rattle.idl_driver.specs.Loading.{AreLoaded, AreComplete}
-use Rattle.idl_driver.specs.Options.{AreAsked}
+use Rattle.idl_driver.specs.Options.{IsOver, named_by}
 use Rattle.idl_driver.specs.declared.compilation.Compilation.{Compilation}
 use Rattle.idl_loader.specs.declared.status.Status.{Status}
 use Rattle.idl_loader.specs.declared.status.Status.TheVariants.{Failed, Faulty, Sound}
@@ -28,6 +28,7 @@ use Rattle.idl_driver.specs.declared.options.Options.{Options}
 use Rattle.idl_tool.specs.Checked.{IsReportText}
 use Rattle.idl_tool.specs.Json.{rows_of}
 use Rattle.idl_tool.specs.Report.{place_text}
+use Rattle.idl_tool.specs.There.{AreThere, files_of}
 use Rattle.idl_tool.specs.declared.request.Diff.{Diff}
 
 -- where a row is declared, if that is known, and its path
@@ -113,10 +114,11 @@ pub record Version : Type 0 where
 abbrev pub seen : Compilation → Version
 seen version = record { inputs = version.sources; roots = version.roots.keys }
 
--- it is the one that the options ask for, over the files that the loader tells of
-pub record IsVersion (told : List ℕ → Holding) (options : Options) (version : Version)
-    : Type 0 where
-  pub asked : AreAsked options version.inputs version.roots
+-- it is the one that the options ask for, of these FILEs, over the files that the loader tells of
+pub record IsVersion (told : List ℕ → Holding) (options : Options) (files : List (List ℕ))
+    (version : Version) : Type 0 where
+  pub over : IsOver options version.inputs
+  pub named : named_by [] files ≡ Some version.roots
   pub formed : IsWellFormed (rootless version.inputs)
   pub loaded : AreLoaded told version.inputs.files
   pub complete : AreComplete told version.inputs version.roots
@@ -170,6 +172,10 @@ pub record IsCompared (told : List ℕ → Holding) (diff : Diff) (before after 
     (status : Status) : Type 0 where
   pub old : Version
   pub new : Version
-  pub old_is : IsVersion told diff.old old
-  pub new_is : IsVersion told diff.new new
+  pub old_files : List (List ℕ)
+  pub new_files : List (List ℕ)
+  pub there : AreThere diff.are_pairs told (files_of diff.old) (files_of diff.new) old_files
+      new_files
+  pub old_is : IsVersion told diff.old old_files old
+  pub new_is : IsVersion told diff.new new_files new
   pub compared : AreCompared diff.is_json diff.fails old new before after status

@@ -7,6 +7,7 @@ pub mod Json
 pub mod Messages
 pub mod Report
 pub mod Served
+pub mod There
 pub mod Sides
 pub mod Words
 pub mod make_rules

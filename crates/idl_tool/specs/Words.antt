@@ -220,6 +220,7 @@ pub record AreDiffOf (rows : List Row) (diff : Diff) : Type 0 where
       diff.new
   pub fails : fails_in rows ≡ Some diff.fails
   pub form : json_in rows ≡ Some diff.is_json
+  pub pairs : diff.are_pairs ≡ is_some (below_in rows)
 
 -- what words ask for: to show a text, to explain words or all, to write rules, to check files, to
 -- write JSON, to tell what changes, or to serve an editor

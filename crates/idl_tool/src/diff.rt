@@ -12,7 +12,7 @@ ghost use Rattle.idl_driver.specs.Written.{WritesSome};
 ghost use Rattle.idl_json.specs.Listed.{place_of, row_of};
 ghost use Rattle.idl_tool.specs.Json.{row_in, rows_of};
 ghost use Rattle.idl_tool.specs.Sides.{AreSides};
-ghost use Rattle.idl_tool.specs.Compared.{AreCompared, IsCompared, all_rows, are_failing, change_lines, changes_of, ending_by, ending_of, grade, has_error, lines_between, place_at, object_line, place_before, seen, shown_between, shown_place, told_line, trees_of};
+ghost use Rattle.idl_tool.specs.Compared.{AreCompared, IsCompared, IsVersion, all_rows, are_failing, change_lines, changes_of, ending_by, ending_of, grade, has_error, lines_between, place_at, object_line, place_before, seen, shown_between, shown_place, told_line, trees_of};
 
 use crate::check::{report_text, status_of};
 use crate::failure::ToolFailure;
@@ -20,9 +20,10 @@ use crate::json::rows_of;
 use crate::once::each_once;
 use crate::report::push_place;
 use crate::request::Diff;
+use crate::there::files_there;
 use idl_changes::{Change, Weights, changes, entry_of, push_change};
 use idl_driver::idl_sources::{CompiledRoot, DetailedEntry, Details, Sources};
-use idl_driver::{Compilation, Devices, compile_files};
+use idl_driver::{Compilation, Devices, Options, compile_files};
 use idl_inputs::Columns;
 use idl_json::{ChangeTold, ListedRow, NamePlace, change_line};
 use idl_loader::{Loader, Status};
@@ -53,12 +54,37 @@ pub fn write_diff<'a, L: Loader, S, O: Sink, E: Sink>(
     ensures until { OnErr result
         (WritesSome (E.written devices.old.errors) (E.written devices.new.errors)) }
 {
-    let old = compile_files(alloc, &diff.old, &mut devices.loader)?;
-    let new = compile_files(alloc, &diff.new, &mut devices.loader)?;
+    let (old_files, new_files) = files_there(alloc, diff, &mut devices.loader)?;
+    let old = compile_version(alloc, &diff.old, &old_files, &mut devices.loader)?;
+    let new = compile_version(alloc, &diff.new, &new_files, &mut devices.loader)?;
     let status = write_compared(diff, &old, &new, devices);
     // The program ends here, and all memory goes back at once.
     forget((old, new));
     status
+}
+
+// Compiles a version as it is asked for, of these FILEs.
+fn compile_version<'a, L: Loader>(
+    alloc: Global,
+    options: &Options<'a>,
+    files: &[&'a str],
+    loader: &mut L,
+) -> Result<Compilation, ToolFailure<'a>>
+    ensures version { IfOk result (λ all. IsVersion (L.told loader.old) options.now
+        (map (λ w. w.now) files.now) (seen all)) }
+    ensures compiled { IfOk result HasCompiled }
+    ensures still { OnOk result (L.told loader.new ≡ L.told loader.old) }
+{
+    let asked = Options {
+        defines: Vec::from_slice(alloc, &options.defines)?,
+        undefines: Vec::from_slice(alloc, &options.undefines)?,
+        directories: Vec::from_slice(alloc, &options.directories)?,
+        files: Vec::from_slice(alloc, files)?,
+        shows_dump: false,
+        shows_listing: false,
+    };
+    let all = compile_files(alloc, &asked, loader)?;
+    Ok(all)
 }
 
 // Writes what changes from one version to another, and what is told of the two.

@@ -18,6 +18,7 @@ mod once;
 mod program;
 mod report;
 mod request;
+mod there;
 mod versions;
 
 pub use idl_driver;

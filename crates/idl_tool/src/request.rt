@@ -45,6 +45,8 @@ pub struct Diff<'a> {
     pub fails: Weights,
     /// Whether each change is written as an object of JSON, and not as a row.
     pub is_json: bool,
+    /// Whether each file of one belongs to one of the other, in their order.
+    pub are_pairs: bool,
 }
 
 /// What the words ask for.
@@ -233,5 +235,6 @@ fn diff_of<'a>(
         new,
         fails: forms.0,
         is_json: forms.1,
+        are_pairs: below_of(matches).is_some(),
     })
 }

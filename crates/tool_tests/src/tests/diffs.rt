@@ -4,7 +4,7 @@ use super::support::{are_given, is_given};
 use std::alloc::Global;
 use std::test::Fail;
 
-static ROWS: [&str; 5] = [
+static ROWS: [&str; 6] = [
     // Two versions, of which the order of what is raised alone tells nothing.
     "idltool diff old.idl new.idl => old.idl: module Bank { enum Kind { PLAIN, SILVER }; exception Low { }; exception No { }; | interface \
      Account { | void draw(in long amount) raises (Low, No); | long balance(); | }; | }; ¶ new.idl: module Bank { | enum Kind { PLAIN, \
@@ -21,6 +21,10 @@ static ROWS: [&str; 5] = [
     "idltool diff --old v -I. a b => v/a: #include <h> ¶ v/b: #include <h> | struct M { long x; }; ¶ v/h: struct S { long x; }; ¶ a: \
      #include <h> | struct M { long x; }; ¶ b: #include <h> ¶ h: struct S { short x; }; => 1 out h:1:8: error: struct S: type of member x, \
      long -> short [wire,client,servant] /",
+    // A file that one version hasn't is empty there, and one that neither has isn't found.
+    "idltool diff --old v a b => v/a: struct S { long x; }; ¶ b: struct S { short x; }; => 1 out b:1:8: error: struct S: type of member x, \
+     long -> short [wire,client,servant] /\nidltool diff --old v c => v/a => 2 err v/c: error: the file v/c isn't found [E10] /c: error: \
+     the file c isn't found [E10] /",
     // Of faulty versions no change is told, but what is found in both.
     "idltool diff a.idl b.idl => a.idl: interface F; ¶ b.idl: typedef No X; => 2 err a.idl:1:11: warning: the interface `F` is declared \
      forward and never defined [W80] /interface F; /          ^ /b.idl:1:9: error: `No` isn't declared here or in a scope around [E30] \
