@@ -132,33 +132,33 @@ next-used numbers i d used left below so all =
     omega (arith, whole, more, times_one number, so, all)
 
 -- other uses are written
-pub kept-written : {R : Type 0} (old : Slab (Used R)) (number : ℕ) (u : Used R) (uses : ℕ) → get old number ≡ Some u → (n : ℕ) → kept_at (with_value old number (record { result = u.result; uses = uses; bucket = u.bucket })) n ≡ kept_at old n
-kept-written {R} old number u uses here n = by (cases_eq n number)
+pub kept-written : {R : Type 0} (old : Slab (Used R)) (number : ℕ) (u : Used R) (uses place : ℕ) → get old number ≡ Some u → (n : ℕ) → kept_at (with_value old number (record { result = u.result; uses = uses; bucket = u.bucket; place = place })) n ≡ kept_at old n
+kept-written {R} old number u uses place here n = by (cases_eq n number)
   where
-    updates : Updates old (with_value old number (record { result = u.result; uses = uses; bucket = u.bucket })) number (Some (record { result = u.result; uses = uses; bucket = u.bucket }))
-    updates = Updates-with_value old number (record { result = u.result; uses = uses; bucket = u.bucket }) (ap is_some here)
+    updates : Updates old (with_value old number (record { result = u.result; uses = uses; bucket = u.bucket; place = place })) number (Some (record { result = u.result; uses = uses; bucket = u.bucket; place = place }))
+    updates = Updates-with_value old number (record { result = u.result; uses = uses; bucket = u.bucket; place = place }) (ap is_some here)
 
-    by : (n ≡ number) ⊎ (n ≢ number) → kept_at (with_value old number (record { result = u.result; uses = uses; bucket = u.bucket })) n ≡ kept_at old n
+    by : (n ≡ number) ⊎ (n ≢ number) → kept_at (with_value old number (record { result = u.result; uses = uses; bucket = u.bucket; place = place })) n ≡ kept_at old n
     by (inl e) = rw e (ap (option_map with_bucket) updates.changed ∙ sym (ap (option_map with_bucket) here))
     by (inr e) = ap (option_map with_bucket) (updates.others n e)
 
 -- a use more is written
-pub more-written : {R : Type 0} (old : Slab (Used R)) (number : ℕ) (u : Used R) (uses : ℕ) (before after : List ℕ) → get old number ≡ Some u → uses ≡ u.uses + 1 → ((n : ℕ) → times n after ≡ times n before + times n (number ∷ [])) → AreMore old (with_value old number (record { result = u.result; uses = uses; bucket = u.bucket })) before after
-more-written {R} old number u uses before after here more parts = record { uses = λ n. uses_by n (cases_eq n number); kept = λ n. kept_by n (cases_eq n number) }
+pub more-written : {R : Type 0} (old : Slab (Used R)) (number : ℕ) (u : Used R) (uses place : ℕ) (before after : List ℕ) → get old number ≡ Some u → uses ≡ u.uses + 1 → ((n : ℕ) → times n after ≡ times n before + times n (number ∷ [])) → AreMore old (with_value old number (record { result = u.result; uses = uses; bucket = u.bucket; place = place })) before after
+more-written {R} old number u uses place before after here more parts = record { uses = λ n. uses_by n (cases_eq n number); kept = λ n. kept_by n (cases_eq n number) }
   where
-    updates : Updates old (with_value old number (record { result = u.result; uses = uses; bucket = u.bucket })) number (Some (record { result = u.result; uses = uses; bucket = u.bucket }))
-    updates = Updates-with_value old number (record { result = u.result; uses = uses; bucket = u.bucket }) (ap is_some here)
+    updates : Updates old (with_value old number (record { result = u.result; uses = uses; bucket = u.bucket; place = place })) number (Some (record { result = u.result; uses = uses; bucket = u.bucket; place = place }))
+    updates = Updates-with_value old number (record { result = u.result; uses = uses; bucket = u.bucket; place = place }) (ap is_some here)
 
-    uses_by : (n : ℕ) → (n ≡ number) ⊎ (n ≢ number) → uses_of (with_value old number (record { result = u.result; uses = uses; bucket = u.bucket })) n + times n before ≡ uses_of old n + times n after
+    uses_by : (n : ℕ) → (n ≡ number) ⊎ (n ≢ number) → uses_of (with_value old number (record { result = u.result; uses = uses; bucket = u.bucket; place = place })) n + times n before ≡ uses_of old n + times n after
     uses_by n (inl e) =
-        let now : uses_of (with_value old number (record { result = u.result; uses = uses; bucket = u.bucket })) number ≡ uses = ap (λ o. elim o [ None ↦ 0 | Some u ↦ u.uses ]) updates.changed in
+        let now : uses_of (with_value old number (record { result = u.result; uses = uses; bucket = u.bucket; place = place })) number ≡ uses = ap (λ o. elim o [ None ↦ 0 | Some u ↦ u.uses ]) updates.changed in
         let was : uses_of old number ≡ u.uses = ap (λ o. elim o [ None ↦ 0 | Some u ↦ u.uses ]) here in
         rw e (omega (arith, now, was, more, parts number, times_one number))
     uses_by n (inr e) =
-        let same : uses_of (with_value old number (record { result = u.result; uses = uses; bucket = u.bucket })) n ≡ uses_of old n = ap (λ o. elim o [ None ↦ 0 | Some u ↦ u.uses ]) (updates.others n e) in
+        let same : uses_of (with_value old number (record { result = u.result; uses = uses; bucket = u.bucket; place = place })) n ≡ uses_of old n = ap (λ o. elim o [ None ↦ 0 | Some u ↦ u.uses ]) (updates.others n e) in
         omega (arith, same, parts n, times_other n number e)
 
-    kept_by : (n : ℕ) → (n ≡ number) ⊎ (n ≢ number) → kept_at (with_value old number (record { result = u.result; uses = uses; bucket = u.bucket })) n ≡ kept_at old n
+    kept_by : (n : ℕ) → (n ≡ number) ⊎ (n ≢ number) → kept_at (with_value old number (record { result = u.result; uses = uses; bucket = u.bucket; place = place })) n ≡ kept_at old n
     kept_by n (inl e) = rw e (ap (option_map with_bucket) updates.changed ∙ sym (ap (option_map with_bucket) here))
     kept_by n (inr e) = ap (option_map with_bucket) (updates.others n e)
 

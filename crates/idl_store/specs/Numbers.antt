@@ -64,7 +64,9 @@ module _ {R : Type 0} where
   -- a result more is kept, under a number that was free, and is used once
   pub record IsPut (old new : Slab (Used R)) (result : R) (bucket number : ℕ) : Type 0 where
     pub free : get old number ≡ None
-    pub changed : get new number ≡ Some (record { result = result; uses = 1; bucket = bucket })
+    pub place : ℕ
+    pub changed : get new number
+        ≡ Some (record { result = result; uses = 1; bucket = bucket; place = place })
     pub others : (n : ℕ) → n ≢ number → get new n ≡ get old n
 
   -- the uses are fewer by those of these numbers, and what is used still is kept still

@@ -14,6 +14,8 @@ pub(crate) struct Used<R> {
     pub(crate) result: R,
     pub(crate) uses: usize,
     pub(crate) bucket: u64,
+    /// The place of a draft at which it was put last: it is looked for there first.
+    pub(crate) place: usize,
 }
 
 /// A list that is being made, by the numbers of its results, and which list it is to be.
@@ -94,15 +96,20 @@ fn part<X>(items: &[X], place: usize, count: usize) -> &[X]
     &rest[..count.min(rest.len())]
 }
 
-// A spot at which a number stands: in the list that the last draft is to be, near where that goes on, or else in the last draft that
-// has it, or in the last list. Most of what an edit finds stood just there, so no list is gone through for it.
-pub(crate) fn spot_of(lists: &[Vec<usize>], drafts: &[Draft], number: usize) -> Option<Spot>
+// A spot at which a number stands: at this place, or near where the list that the last draft is to be goes on, or else in the last
+// draft that has it, or in the last list. Most of what an edit finds stands where it was put last, so no list is gone through for it.
+pub(crate) fn spot_of(
+    lists: &[Vec<usize>],
+    drafts: &[Draft],
+    number: usize,
+    place: usize,
+) -> Option<Spot>
     ensures found { IfSome result (λ spot.
         result_on (numbers_of lists.now drafts.now) spot ≡ Some number) }
     ensures none { result ≡ None
         → times number (results_in (numbers_of lists.now drafts.now)) ≡ 0 }
 {
-    if let Some(spot) = spot_near(lists, drafts, number) {
+    if let Some(spot) = spot_beside(lists, drafts, number, place) {
         return Some(spot);
     }
     if let Some(spot) = spot_among(lists, drafts, true, number) {
@@ -111,20 +118,56 @@ pub(crate) fn spot_of(lists: &[Vec<usize>], drafts: &[Draft], number: usize) -> 
     spot_among(lists, drafts, false, number)
 }
 
-// A spot at which a number stands in the list that the last draft is to be, near where that goes on.
-fn spot_near(lists: &[Vec<usize>], drafts: &[Draft], number: usize) -> Option<Spot>
+// A spot at which a number stands, which `spot_at` or `spot_near` finds.
+fn spot_beside(lists: &[Vec<usize>], drafts: &[Draft], number: usize, place: usize) -> Option<Spot>
     ensures { IfSome result (λ spot.
         result_on (numbers_of lists.now drafts.now) spot ≡ Some number) }
 {
-    let draft = drafts.last()?;
-    let numbers = lists.get(draft.at)?;
-    let spot = Spot {
-        is_draft: false,
-        list: draft.at,
-        place: place_near(numbers, draft.numbers.len(), number)?,
+    let spot = match spot_at(lists, drafts, number, place) {
+        Some(spot) => spot,
+        None => spot_near(lists, drafts, number)?,
     };
     let found = number_on(lists, drafts, spot)?;
     if found == number { Some(spot) } else { None }
+}
+
+// A spot at this place at which a number stands: in the list that the last draft is to be, or in the last draft or list that has it
+// there.
+fn spot_at(lists: &[Vec<usize>], drafts: &[Draft], number: usize, place: usize) -> Option<Spot> {
+    let own = drafts.last()?.at;
+    if number_at(lists, own, place) == Some(number) {
+        return Some(Spot {
+            is_draft: false,
+            list: own,
+            place,
+        });
+    }
+    for is_draft in [true, false] {
+        let count = count_among(lists, drafts, is_draft);
+        for behind in 0..count {
+            let list = count - 1 - behind;
+            let spot = Spot {
+                is_draft,
+                list,
+                place,
+            };
+            if number_on(lists, drafts, spot) == Some(number) {
+                return Some(spot);
+            }
+        }
+    }
+    None
+}
+
+// A spot at which a number stands in the list that the last draft is to be, near where that goes on.
+fn spot_near(lists: &[Vec<usize>], drafts: &[Draft], number: usize) -> Option<Spot> {
+    let draft = drafts.last()?;
+    let place = place_near(lists.get(draft.at)?, draft.numbers.len(), number)?;
+    Some(Spot {
+        is_draft: false,
+        list: draft.at,
+        place,
+    })
 }
 
 // The place of a number, at this place or not far from it, or nothing.
@@ -176,6 +219,14 @@ fn place_in(numbers: &[usize], number: usize) -> Option<usize>
     ensures { result ≡ position (λ other. nat_eq other number) numbers.now }
 {
     numbers.iter().position(|other| *other == number)
+}
+
+// How many numbers the last draft has; none where there is no draft.
+pub(crate) fn last_len(drafts: &[Draft]) -> usize {
+    match drafts.last() {
+        Some(draft) => draft.numbers.len(),
+        None => 0,
+    }
 }
 
 // The numbers go into the last draft, behind those that are there.

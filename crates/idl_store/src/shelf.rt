@@ -129,7 +129,7 @@ impl<R: Ranked> Shelf<R> {
             (results_in self.now.stored)) }
     {
         match self.index.find(bucket, probe) {
-            Ok(number) => spot_of(&self.lists, &self.drafts, number),
+            Ok(number) => spot_of(&self.lists, &self.drafts, number, self.used[number].place),
             Err(_gap) => None,
         }
     }

@@ -235,8 +235,7 @@ where
             (self.new ≡ grown self.old (option_to_list (result_at self.old list place))) }
         ensures err { OnErr result (self.new ≡ self.old) }
     {
-        let found = self.shelf.take_again(list, place)?;
-        match found {
+        match self.shelf.take_again(list, place)? {
             Some(held) => Ok(Some(held.into_shared())),
             None => Ok(None),
         }
@@ -286,10 +285,9 @@ where
             (results_in self.old) meter.old meter.new) }
         ensures err { OnErr result (self.new ≡ self.old) }
     {
-        let found = take_alike(&mut self.shelf, task, bank)?;
-        let gap = match found {
-            Ok(held) => {
-                let shared = held.into_shared();
+        let gap = match take_alike(&mut self.shelf, task, bank)? {
+            Ok(found) => {
+                let shared = found.into_shared();
                 meter.compare(shared.log().len());
                 return Ok(shared);
             }

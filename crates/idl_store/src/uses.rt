@@ -7,7 +7,7 @@ ghost use Rattle.idl_store.specs.Numbers.{AreFewer, AreMore, AreUsed, IsIndexOf,
 ghost use Rattle.idl_store.specs.Stored.{results_of_drafts, with_results};
 
 use crate::index::{Gap, Index};
-use crate::numbers::{Draft, Used, push_numbers};
+use crate::numbers::{Draft, Used, last_len, push_numbers};
 use crate::ranked::Ranked;
 use slab::Slab;
 use std::alloc::AllocError;
@@ -60,8 +60,9 @@ pub(crate) fn use_all_again<R>(
     if !have_room(used, numbers) {
         return Err(AllocError);
     }
+    let place = last_len(drafts);
     push_numbers(drafts, numbers)?;
-    count_uses(used, numbers);
+    count_uses(used, numbers, place);
     Ok(())
 }
 
@@ -79,14 +80,18 @@ fn have_room<R>(used: &Slab<Used<R>>, numbers: &[usize]) -> bool
     true
 }
 
-// Each of these numbers is used once more for each place at which it is among them.
-fn count_uses<R>(used: &mut Slab<Used<R>>, numbers: &[usize])
+// Each of these numbers is used once more for each place at which it is among them: they stand from a place on now.
+fn count_uses<R>(used: &mut Slab<Used<R>>, numbers: &[usize], place: usize)
     requires some { All (λ n. IsSome (get used.old n)) numbers.now }
     requires room { All (λ n. uses_of used.old n + length numbers.now < 2 ^ 64) numbers.now }
     ensures { AreMore used.old used.new [] numbers.now }
 {
+    let mut place = place;
     for number in numbers {
-        used[*number].uses += 1;
+        let one = &mut used[*number];
+        one.uses += 1;
+        one.place = place;
+        place = place.saturating_add(1);
     }
 }
 
@@ -116,11 +121,13 @@ pub(crate) fn put<R: Ranked>(
     draft.numbers.reserve(1)?;
     used.reserve(1)?;
     let number = used.vacant_key();
+    let place = draft.numbers.len();
     index.insert(gap, kept.again()?, number, *draft.numbers.allocator())?;
     used.insert_reserved(Used {
         result: kept,
         uses: 1,
         bucket: gap.bucket,
+        place,
     });
     draft.numbers.push_reserved(number);
     Ok(())

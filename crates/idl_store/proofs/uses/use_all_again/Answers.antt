@@ -5,6 +5,7 @@ use Rattle.idl_store.specs.Stored.{results_of_drafts}
 use Rattle.idl_store.proofs.Drafting.{length-drafts, some-unless}
 use Rattle.idl_store.proofs.Times.{times-with_results}
 use Rattle.idl_store.proofs.Using.{more-beside}
+use Rattle.std.proofs.lemmas.Grind.{common_steps}
 use Rattle.idl_store.proofs.uses.use_all_again.Goals as goal
 
 pub returns-clause-uses : goal.returns-clause-uses
@@ -16,3 +17,21 @@ returns-clause-uses g c =
     let some : 0 < length before = omega (arith, there, c.args.drafts.now.ok.0, length-drafts c.args.drafts.now.items) in
     more-beside c.args.used.now c.count_uses.new.used numbers (results_of_drafts before) (results_of_drafts after) c.count_uses.ensures
     (λ n. ap (λ ds. times n (results_of_drafts ds)) c.in_ok-push_numbers.ensures.ok ∙ times-with_results n before numbers some)
+
+pub returns-clause-err : goal.returns-clause-err
+returns-clause-err g c = grind (arith, common_steps)
+
+pub returns-clause-count : goal.returns-clause-count
+returns-clause-count g c = grind (arith, common_steps)
+
+pub returns-then-is_empty : goal.returns-then-is_empty
+returns-then-is_empty g c = grind (arith, common_steps)
+
+pub returns-clause-drafts : goal.returns-clause-drafts
+returns-clause-drafts g c = grind (arith, common_steps)
+
+pub returns-in_err-push_numbers-clause-err : goal.returns-in_err-push_numbers-clause-err
+returns-in_err-push_numbers-clause-err g c = grind (arith, common_steps)
+
+pub returns-then-not-have_room : goal.returns-then-not-have_room
+returns-then-not-have_room g c = grind (arith, common_steps)

@@ -7,6 +7,7 @@ use Rattle.idl_store.proofs.Bucketed.{on_err}
 use Rattle.idl_store.proofs.Changing.{stored-kept}
 use Rattle.idl_store.proofs.Drafting.{length-drafts, some-unless}
 use Rattle.idl_store.proofs.Obtaining.{comes-shown, comes-stored, refused-shown}
+use Rattle.std.proofs.lemmas.Grind.{common_steps}
 use Rattle.idl_store.proofs.shelf.Shelf.put.Goals as goal
 
 pub put-requires-clause-gap : goal.put-requires-clause-gap
@@ -36,3 +37,15 @@ invariant_of-self-2 g c =
 pub returns-clause-ok : goal.returns-clause-ok
 returns-clause-ok g c =
     comes-shown c.self.invariant.0 c.put.new.used c.put.new.index c.args.kept c.args.gap.bucket (drafts_of c.put.new.drafts.items) c.requires.bucket c.args.self.now.stored (ap (λ s. s.stored) c.self.view_is) c.in_ok-put.ensures.ok
+
+pub returns-clause-err : goal.returns-clause-err
+returns-clause-err g c = grind (arith, common_steps)
+
+pub returns-then-is_empty : goal.returns-then-is_empty
+returns-then-is_empty g c = grind (arith, common_steps)
+
+pub returns-in_err-again-clause-err : goal.returns-in_err-again-clause-err
+returns-in_err-again-clause-err g c = grind (arith, common_steps)
+
+pub returns-clause-result : goal.returns-clause-result
+returns-clause-result g c = grind (arith, common_steps)

@@ -4,8 +4,11 @@ use Rattle.std.specs.declared.cmp.Ordering.TheVariants.{Equal}
 use Rattle.idl_store.specs.Numbers.{numbers_of, times}
 use Rattle.idl_store.specs.Spots.{result_on}
 use Rattle.idl_store.specs.Stored.{results_in}
-use Rattle.idl_store.proofs.Obtaining.{again-some, again-spot, all-stand, none-there}
+use Rattle.idl_store.proofs.Obtaining.{again-some, again-spot, again-taken, all-stand, none-there}
 use Rattle.idl_store.proofs.shelf.Shelf.spot.Goals as goal
+
+pub index-requires : goal.index-requires
+index-requires g c = again-taken c.self.invariant.0 (λ one. g.P.Probe.stand c.args.probe.now one ≡ Equal) c.args.bucket c.in-Ok.number c.in-Ok.ensures.found
 
 pub returns-in-Ok-clause-found : goal.returns-in-Ok-clause-found
 returns-in-Ok-clause-found g c =

@@ -1,5 +1,5 @@
 -- What a look-up finds is the result there, and where it finds none, a run gives it.
-use Rattle.std.proofs.Common.{◌∙◌, ◌∷◌, [], ap, inl, inr, length, refl, subst, sym}
+use Rattle.std.proofs.Common.{◌∙◌, ◌∷◌, [], ap, inl, inr, length, refl, subst, sym, arith}
 use Rattle.std.specs.Option.{option_cmp}
 use Rattle.std.proofs.lemmas.Result.{IfErr-at_err, IfOk-at_ok}
 use Rattle.idl_memo.specs.Kept.{IsSound, NoneAlikeAt, SomeAlikeAt, result_over}
@@ -9,6 +9,7 @@ use Rattle.idl_store.specs.Index.{IsGapAmong}
 use Rattle.idl_store.specs.Order.{results_cmp}
 use Rattle.idl_store.specs.Stored.{grown, results_in}
 use Rattle.idl_store.proofs.Obtaining.{keys-same}
+use Rattle.std.proofs.lemmas.Grind.{common_steps}
 use Rattle.idl_store.proofs.store.Store+Held+B+T+Running+B.obtain.Goals as goal
 
 pub returns-in-Ok-clause-result : goal.returns-in-Ok-clause-result
@@ -64,3 +65,9 @@ returns-clause-meter g c =
 
 pub returns-clause-result : goal.returns-clause-result
 returns-clause-result g c = c.into_shared.ensures ∙ c.in_ok-held.ensures.result ∙ c.of.ensures ∙ c.in_ok-kept.ensures
+
+pub returns-clause-err : goal.returns-clause-err
+returns-clause-err g c = grind (arith, common_steps)
+
+pub returns-in-Ok-clause-err : goal.returns-in-Ok-clause-err
+returns-in-Ok-clause-err g c = grind (arith, common_steps)
