@@ -14,7 +14,8 @@ loop-item-preserved g c =
     let others = c.in-Some.others.now in
     let row = c.loop-item.row.items in
     left-told (λ x. codes " " ++ g.T.Named.name_of x) others others refl c.loop-item.item-index c.item-item.result row c.push_named.new.text.items _ c.loop-item-test.true c.item-item.is
-    (c.in_ok-push_named.ensures ∙ ap (λ (t : List ℕ). row ++ (codes " " ++ t)) (c.as_bytes-in-loop-item.ensures ∙ c.name-in-loop-item.ensures)) c.loop-item.invariant
+    (◌∙◌ {A = List ℕ} c.in_ok-push_named.ensures (ap (λ (t : List ℕ). row ++ (codes " " ++ t)) (c.as_bytes-in-loop-item.ensures ∙ c.name-in-loop-item.ensures)))
+    c.loop-item.invariant
 
 pub returns : goal.returns
 returns g c =

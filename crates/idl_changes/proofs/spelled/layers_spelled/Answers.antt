@@ -1,4 +1,4 @@
-use Rattle.std.proofs.Common.{◌≡◌, ◌∙◌, ◌+◌, ◌<◌, ◌++◌, ◌∷◌, [], ℕ, List, Vec, ap, ap₂, drop, get_or, length, sym}
+use Rattle.std.proofs.Common.{◌≡◌, ◌∙◌, ◌+◌, ◌<◌, ◌++◌, ◌∷◌, [], ℕ, List, ap, ap₂, drop, get_or, length, sym}
 use Rattle.std.proofs.lemmas.List.{drop_all, drop_more}
 use Rattle.idl_entity.specs.declared.data_type.Layer.{Layer}
 use Rattle.idl_entity.specs.declared.data_type.Layer.TheVariants.{Array, Sequence}
