@@ -7,12 +7,15 @@ pub mod Ending
 pub mod Expression
 pub mod Macros
 pub mod Marks
+pub mod Names
 pub mod Operators
 pub mod Pragma
 pub mod Ranks
+pub mod Rows
 pub mod Spelling
 pub mod Steps
 pub mod Tokens
 pub mod Types
 pub mod Used
+pub mod Verdict
 pub mod Visited

@@ -83,6 +83,35 @@ unfound_at w way name (At why part) = record {
 }
 unfound_at w way name Memory = quiet w
 
+-- behind the end of a scope: it is a type from then on, and no `default` is where all values of a
+-- union's labels are
+abbrev pub scope_left : Walk → Visit
+scope_left w =
+    elim (first w.cursor) [
+      | None ↦ quiet w
+      | Some s ↦
+          let is_union = kind_eq s.kind Union in
+          faulty_if (is_union && is_useless_default w.unions) code.UselessDefault w (record w {
+            cursor = drop 1 w.cursor;
+            begun = w.begun ++ told_innermost w.clauses w.bodies;
+            written = record w.written { data_type = Some (plain_type (Named s.path)) };
+            bodies = drop 1 w.bodies;
+            unions = if is_union then drop 1 w.unions else w.unions;
+          })
+    ]
+
+-- behind the lengths of an array, which what was declared last is
+abbrev pub array_left : Walk → Walk
+array_left w =
+    let ended = record w { values = record w.values { lengths = [] } } in
+    elim w.last [
+      | None ↦ ended
+      | Some e ↦ let array = array_of w.values.lengths e in record ended {
+        own = with_addition w.own (Declares array);
+        bodies = with_innermost (with_array_type array) w.bodies;
+      }
+    ]
+
 -- what stands in a scope under the name of what is declared there, over these answers
 abbrev pub standing_at : ℕ → (Key → Option Answer) → Scope → Entity → Standing
 standing_at turns answers s e =
@@ -149,18 +178,7 @@ module _ (turns : ℕ) (answers : Key → Option Answer) where
     cursor = with_scope way name w.cursor;
     bodies = begun_body w.last w.written.data_type ∷ w.bodies;
   })
-  visited item.ScopeEnds w = elim (first w.cursor) [
-    | None ↦ quiet w
-    | Some s ↦
-        let is_union = kind_eq s.kind Union in
-        faulty_if (is_union && is_useless_default w.unions) code.UselessDefault w (record w {
-          cursor = drop 1 w.cursor;
-          begun = w.begun ++ told_innermost w.clauses w.bodies;
-          written = record w.written { data_type = Some (plain_type (Named s.path)) };
-          bodies = drop 1 w.bodies;
-          unions = if is_union then drop 1 w.unions else w.unions;
-        })
-  ]
+  visited item.ScopeEnds w = scope_left w
   visited item.ValueBegins w = quiet (record w { values = begun_at w.at w.values })
   visited (item.ValueEnds way e) w =
       let v = evaluation_at w way e in
@@ -168,17 +186,7 @@ module _ (turns : ℕ) (answers : Key → Option Answer) where
   visited (item.TypeEnds shape) w =
       let t = written_as shape w.values.bound w.written.data_type in
       quiet (record w { written = record w.written { data_type = t; constants = target_in t } })
-  visited item.ArrayEnds w =
-      let ended = record w { values = record w.values { lengths = [] } } in
-      elim w.last [
-        | None ↦ quiet ended
-        | Some e ↦
-            let array = array_of w.values.lengths e in
-            quiet (record ended {
-              own = with_addition w.own (Declares array);
-              bodies = with_innermost (with_array_type array) w.bodies;
-            })
-      ]
+  visited item.ArrayEnds w = quiet (array_left w)
   visited (item.Enumerates names) w =
       quiet (record w { written = record w.written { enumerators = names.first ∷ names.rest } })
   visited (item.Identifies text) w = quiet (record w { text = joined text })

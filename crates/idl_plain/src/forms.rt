@@ -1,15 +1,20 @@
 //! The laws that a test of one form holds of that alone, and of a beginning where a text begins so.
 
-ghost use Rattle.std.specs.Prelude.{◌≡◌, ◌∷◌, ◌↔◌, ◌⊎◌, ℕ, ℤ, [], List, codes, nat_eq, not, pos, true};
+ghost use Rattle.std.specs.Prelude.{◌≡◌, ◌∷◌, ◌↔◌, ◌⊎◌, ℕ, ℤ, [], List, codes, map, nat_eq, not, pos, slice_get, true};
+ghost use Rattle.std.specs.Option.{unwrap_or};
 ghost use Rattle.std.specs.List.{list_any, starts_with};
 ghost use Rattle.idl_check.specs.tables.Rules.{has_id, is_type};
 ghost use Rattle.idl_check.specs.told.Bodies.{is_nothing as raises_none};
 ghost use Rattle.idl_check.specs.walk.Placing.{is_module};
+ghost use Rattle.idl_entity.specs.Identity.{no_prefix};
 ghost use Rattle.idl_entity.specs.Kind.{has_bases, is_scope, kind_eq};
 ghost use Rattle.idl_entity.specs.declared.kind.Kind.{Kind};
 ghost use Rattle.idl_entity.specs.declared.kind.Kind.TheVariants as kind;
 ghost use Rattle.idl_entity.specs.declared.kind.Stage.{Stage};
 ghost use Rattle.idl_entity.specs.declared.kind.Stage.TheVariants.{Complete, Open};
+ghost use Rattle.idl_entity.specs.declared.identity.Prefix.{Prefix};
+ghost use Rattle.idl_env.specs.Facts.{given_back, innermost, path_around};
+ghost use Rattle.idl_env.specs.declared.answering.answer.Scope.{Scope};
 ghost use Rattle.idl_lex.specs.bytes.Context.{is_include, is_newline, is_nothing};
 ghost use Rattle.idl_lex.specs.bytes.Piece.{is_empty};
 ghost use Rattle.idl_lex.specs.declared.bytes.context.Beginning.{Beginning};
@@ -71,4 +76,14 @@ pub fn kinds()
         (kind.Module ∷ kind.Interface ∷ kind.Structure ∷ kind.Union ∷ kind.Exception ∷ []) }
     ensures ids { (k : Kind) → has_id k
         ≡ not (list_any (kind_eq k) (kind.Enumerator ∷ kind.Parameter ∷ kind.Member ∷ [])) }
+{}
+
+/// Each of these is the first of a list, or what stands for it where there is none.
+pub fn firsts()
+    ensures prefixes { (prefixes : List Prefix) → given_back prefixes
+        ≡ unwrap_or (slice_get prefixes 0) no_prefix }
+    ensures operations { (inside : List (List (List (List ℕ)))) → innermost inside
+        ≡ unwrap_or (slice_get inside 0) [] }
+    ensures paths { (scopes : List Scope) → path_around scopes
+        ≡ unwrap_or (slice_get (map (λ s. s.path) scopes) 0) [] }
 {}

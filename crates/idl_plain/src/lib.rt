@@ -9,17 +9,21 @@ mod directives;
 mod forms;
 mod laws;
 mod lexemes;
+mod names;
 mod paths;
+mod rows;
 mod tables;
 mod visits;
 
 pub use directives::{files, macros};
-pub use forms::{beginnings, kinds, tests};
+pub use forms::{beginnings, firsts, kinds, tests};
 pub use laws::{additions, answers, conditions, pragmas, sameness, units};
 pub use lexemes::spellings;
+pub use names::denoting;
 pub use paths::outward;
+pub use rows::listing;
 pub use tables::{
-    allowances, codes, declarations, expressions, literals, marks, numbers, operators, ranks,
-    steps, tokens, types, uses,
+    allowances, codes, declarations, expressions, literals, marks, numbers, operators, ranges,
+    ranks, steps, tokens, types, uses,
 };
-pub use visits::sites;
+pub use visits::{behind, sites, verdicts};

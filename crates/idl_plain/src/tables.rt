@@ -1,15 +1,22 @@
 //! The laws that a table has what several definitions say.
 
-ghost use Rattle.std.specs.Prelude.{◌≡◌, ◌↔◌, ◌∷◌, ◌++◌, ◌+◌, ◌^◌, ◌&&◌, [], ℕ, Bool, Contains, List, None, Option, Some, flat_map, is_some, map, nat_eq, nat_le, nat_lt, take, true, if◌then◌else◌};
+ghost use Rattle.std.specs.Prelude.{◌≡◌, ◌↔◌, ◌∷◌, ◌++◌, ◌+◌, ◌-◌, ◌^◌, ◌&&◌, ◌||◌, [], ℕ, ℤ, Bool, Contains, Err, List, None, Ok, Option, Some, filter, flat_map, int_le, is_some, map, max, nat_eq, nat_le, nat_lt, neg_ℤ, pos, take, true, if◌then◌else◌};
 ghost use Rattle.std.specs.List.{enumerate_from, prefix_len};
 ghost use Rattle.std.specs.Map.{lookup};
-ghost use Rattle.idl_check.specs.tables.Codes.{Table};
-ghost use Rattle.idl_check.specs.tables.Declaring.{Written, declared_table, entity_of};
+ghost use Rattle.idl_check.specs.tables.Codes.{faults_by};
+ghost use Rattle.idl_check.specs.tables.Declaring.{Written, entity_of};
 ghost use Rattle.idl_check.specs.tables.Using.{Bases, used_table, with_uses};
-ghost use Rattle.idl_check.specs.walk.Walk.{Walk, used_after, with_scope};
+ghost use Rattle.idl_check.specs.told.Bodies.{Body, with_innermost, with_member};
+ghost use Rattle.idl_check.specs.walk.Walk.{Walk, declared_visit, used_after, with_scope};
 ghost use Rattle.idl_check.specs.told.Types.{element_of};
 ghost use Rattle.idl_check.specs.declared.tables.standing.Standing.{Standing};
+ghost use Rattle.idl_entity.specs.DataType.{plain_type};
+ghost use Rattle.idl_entity.specs.Kind.{kind_eq, stage_eq};
+ghost use Rattle.idl_entity.specs.Path.{name_of};
+ghost use Rattle.idl_entity.specs.declared.data_type.Element.TheVariants.{Named};
 ghost use Rattle.idl_entity.specs.declared.entity.Entity.{Entity};
+ghost use Rattle.idl_entity.specs.declared.kind.Kind.TheVariants.{Constant, Enumeration, Interface, Member as MemberKind, Parameter};
+ghost use Rattle.idl_entity.specs.declared.kind.Stage.TheVariants.{Begun};
 ghost use Rattle.idl_env.specs.Facts.{World, after_step};
 ghost use Rattle.idl_env.specs.declared.additions.addition.Step.{Step};
 ghost use Rattle.idl_env.specs.declared.answering.answer.Scope.{Scope};
@@ -32,7 +39,7 @@ ghost use Rattle.idl_parts.specs.declared.part.Declaration.{Declaration};
 ghost use Rattle.idl_parts.specs.declared.part.Use.{Use};
 ghost use Rattle.idl_plain.specs.Allowance.{left_behind};
 ghost use Rattle.idl_plain.specs.Codes.{rows};
-ghost use Rattle.idl_plain.specs.Declared.{declared, rules_of_declared};
+ghost use Rattle.idl_plain.specs.Declared.{declared, declared_in, directions, rules_of_declared};
 ghost use Rattle.idl_plain.specs.Expression.{read};
 ghost use Rattle.idl_plain.specs.Marks.{letters, preprocessing, punctuation};
 ghost use Rattle.idl_plain.specs.Operators.{before, between};
@@ -54,10 +61,12 @@ ghost use Rattle.idl_unit.specs.TokenRules.{token_codes};
 ghost use Rattle.idl_value.specs.ConstantType.{target_of};
 ghost use Rattle.idl_value.specs.Evaluation.{Operands, combined, read_term, signed_value};
 ghost use Rattle.idl_value.specs.Term.{Term, expression_term};
-ghost use Rattle.idl_value.specs.integers.Integer.{is_signed, width};
+ghost use Rattle.idl_value.specs.Operate.{in_parts};
+ghost use Rattle.idl_value.specs.integers.Integer.{holds, is_signed, width};
 ghost use Rattle.idl_value.specs.declared.constant_type.ConstantType.{ConstantType};
 ghost use Rattle.idl_value.specs.declared.integer.IntegerKind.{IntegerKind};
 ghost use Rattle.idl_value.specs.declared.operator.BinaryOperator.{BinaryOperator};
+ghost use Rattle.idl_value.specs.declared.outcome.ValueCode.TheVariants.{OutOfRange};
 ghost use Rattle.idl_value.specs.declared.value.Value.{Value};
 ghost use Rattle.idl_value.specs.declared.walk.Passed.{Passed};
 
@@ -81,8 +90,37 @@ pub fn declarations()
         → (with_scope way name [] ≡ []) × (with_scope way name (s ∷ scopes)
         ≡ (let e = declared w (name ∷ s.path) way in
         record { path = e.path; kind = e.kind; body = 1 } ∷ s ∷ scopes)) }
-    ensures rules { (s : Scope) (standing : Standing) (e : Entity)
-        → declared_table s standing e ≡ rules_of_declared s standing e }
+    ensures visits { (w : Walk) (way : Declaration) (s : Scope) (e : Entity) (standing : Standing)
+        → declared_visit w way s e standing ≡ record {
+          faults = faults_by w.at (rules_of_declared s standing e);
+          after = record w {
+            at = w.at + 1;
+            own = declared_in standing e w.own;
+            begun = w.begun ++ filter (λ e. stage_eq e.stage Begun
+                && (kind_eq e.kind Interface || kind_eq e.kind Constant)) (e ∷ []);
+            written =
+                if kind_eq e.kind Enumeration
+                then record w.written {
+                  data_type = Some (plain_type (Named e.path));
+                  enumeration = e.path;
+                } else w.written;
+            last = Some e;
+            bodies = with_member way e w.bodies;
+          };
+        } }
+    ensures members { (way : Declaration) (e : Entity) (bodies : List Body)
+        → with_member way e bodies ≡ with_innermost (λ b.
+          if kind_eq e.kind MemberKind || kind_eq e.kind Parameter
+          then record b {
+            members = b.members ++ record {
+              name = name_of e.path;
+              data_type = e.data_type;
+              labels = b.labels;
+              goes_in = (directions way).0;
+              comes_out = (directions way).1;
+            } ∷ [];
+            labels = [];
+          } else b) bodies }
 {}
 
 /// Of each change of the open scopes, of the files entered, or of the prefix one line tells what it does.
@@ -101,6 +139,19 @@ pub fn uses()
           own = with_uses (folded name.first) found.reach w.cursor w.own;
           found = w.found ++ found.entity.path ∷ [];
         }) }
+{}
+
+/// The values of an integer type are those of its bits, with a sign or without; and each part of one is within those of 32 bits at least,
+/// of both.
+pub fn ranges()
+    ensures values { (k : IntegerKind) (z : ℤ) → holds k z ≡ (
+        let half = 2 ^ (width k - 1) in
+        if is_signed k then int_le (neg_ℤ (pos half)) z && int_le z (pos (half - 1))
+        else int_le (pos 0) z && int_le z (pos (2 ^ width k - 1))) }
+    ensures parts { (k : IntegerKind) (z : ℤ) → in_parts k z ≡ (
+        let bits = max 32 (width k) in
+        if int_le (neg_ℤ (pos (2 ^ (bits - 1)))) z && int_le z (pos (2 ^ bits - 1)) then Ok z
+        else Err OutOfRange) }
 {}
 
 /// An operator has a value at whole numbers alone, for an integer type.
