@@ -1,5 +1,6 @@
 mod AdditionLaws
 mod AnswerLaws
+mod CaseLaws
 mod CodeLaws
 mod ConditionLaws
 mod DeclaredLaws
@@ -12,6 +13,7 @@ mod PairLaws
 mod PragmaLaws
 mod RankLaws
 mod RowLaws
+mod RuleLaws
 mod SameLaws
 mod SpellingLaws
 mod TableLaws

@@ -1,20 +1,30 @@
 -- Names are looked up part by part, and how far their uses go.
-use Rattle.std.proofs.Common.{◌≡◌, ◌∙◌, ◌+◌, ◌++◌, ◌-◌, [], ◌∷◌, Bool, Err, List, None, Ok, Option, Result, Some, ap, arith, cond, drop, false, fold, map, min, not, refl, scan, slice_get, suc, sym, take, true, zero, ℕ}
+use Rattle.std.proofs.Common.{◌≡◌, ◌∙◌, ◌+◌, ◌++◌, ◌-◌, [], ◌∷◌, Bool, Err, List, None, Ok, Option, Result, Some, ap, arith, cond, drop, false, fold, is_some, map, min, not, refl, scan, slice_get, suc, sym, take, true, zero, ℕ}
 use Rattle.std.specs.List.{list_any, prefix_len}
 use Rattle.std.specs.Option.{option_to_list}
 use Rattle.std.specs.Prelude.{if◌then◌else◌}
+use Rattle.idl_check.specs.ids.About.{Said, about_entity, refused_for}
+use Rattle.idl_check.specs.ids.Remarks.{prefixed_at, remark, unless}
+use Rattle.idl_check.specs.tables.Codes.{faults_by}
+use Rattle.idl_check.specs.tables.Rules.{is_no_id, is_no_prefix}
 use Rattle.idl_check.specs.tables.Using.{further_uses, with_uses}
 use Rattle.idl_entity.specs.Kind.{is_scope, kind_eq}
 use Rattle.idl_entity.specs.declared.entity.Entity.{Entity}
+use Rattle.idl_entity.specs.declared.identity.Fixed.TheVariants.{Id}
 use Rattle.idl_entity.specs.declared.kind.Kind.TheVariants.{Module}
-use Rattle.idl_env.specs.Facts.{over, with_addition}
+use Rattle.idl_env.specs.Facts.{over, typeprefix_in, with_addition}
 use Rattle.idl_env.specs.declared.additions.addition.Addition.{Addition}
-use Rattle.idl_env.specs.declared.additions.addition.Addition.TheVariants.{Uses, UsesFurther}
+use Rattle.idl_env.specs.declared.additions.addition.Addition.TheVariants.{TypePrefixes, Uses, UsesFurther}
+use Rattle.idl_env.specs.declared.additions.addition.Step.TheVariants.{Stays}
 use Rattle.idl_env.specs.declared.answering.answer.Answer.{Answer}
 use Rattle.idl_env.specs.declared.answering.answer.Scope.{Scope}
 use Rattle.idl_env.specs.declared.keys.key.Key.{Key}
+use Rattle.idl_env.specs.declared.keys.key.Key.TheVariants.{Typeprefix}
+use Rattle.idl_fault.specs.declared.code.Code.TheVariants.{NoScope as NoScopeCode, RepeatedTypeprefix}
 use Rattle.idl_lex.specs.kinds.Keywords.{folded}
 use Rattle.idl_memo.specs.Query.{Ask, Done, Tell, and_then}
+use Rattle.idl_parts.specs.declared.part.TextPurpose.{TextPurpose}
+use Rattle.idl_parts.specs.declared.part.TextPurpose.TheVariants as text
 use Rattle.idl_plain.specs.Names.{asked_in, asked_of}
 use Rattle.idl_scope.specs.Lookup.{before_module, by_result, decided, declares_at, denoted, extent, found_as, further, has, judged, placed, reach_by, reach_of}
 use Rattle.idl_scope.specs.Meaning.{searched, undeclared}
@@ -26,6 +36,8 @@ use Rattle.idl_scope.specs.declared.fault.NameFault.TheVariants.{At}
 use Rattle.idl_scope.specs.declared.found.Found.{Found}
 use Rattle.idl_scope.specs.declared.found.Reach.{Reach}
 use Rattle.idl_tree.specs.declared.name.ScopedName.{ScopedName}
+use Rattle.idl_unit.specs.TokenRules.{fault_at}
+use Rattle.idl_unit.specs.declared.fault.Fault.{Fault}
 use Rattle.idl_value.specs.Equal.{path_eq}
 use Rattle.idl_value.specs.Spelled.{scope_of}
 
@@ -158,3 +170,51 @@ module _ (n : List ℕ) where
   uses-scanned r scopes own =
       ap (λ (l : List Addition). fold with_addition own (map (λ (s : Scope). Uses n s.path s.body) (take r.certain scopes) ++ l))
       (further-told [] (undeclared (λ k. over own k None) n (take r.further (drop r.certain scopes))))
+
+-- ---- what texts say
+
+module _ (at : ℕ) (t : List ℕ) (e : Entity) where
+  abbrev repeated_if : Bool → List Fault
+  repeated_if b = if b then fault_at at RepeatedTypeprefix ∷ [] else []
+
+  abbrev refused : Lookup Said
+  refused = Done (refused_for (fault_at at NoScopeCode ∷ []))
+
+  abbrev prefixed : Bool → Lookup Said
+  prefixed is_bad = Ask (Typeprefix e.path) (λ answer. Done (record {
+    faults = repeated_if (is_some (typeprefix_in answer));
+    additions = if is_bad then [] else TypePrefixes e.path t ∷ [];
+    step = Stays;
+  }))
+
+  repeated-told : (b : Bool) → faults_by at ((b, RepeatedTypeprefix) ∷ []) ≡ repeated_if b
+  repeated-told true = refl
+  repeated-told false = refl
+
+  prefix-by : (is_there is_bad : Bool)
+      → and_then (if is_there then Ask (Typeprefix e.path) (λ answer. Done (prefixed_at at t e.path answer)) else refused) (λ s. Done (unless is_bad s))
+      ≡ (if is_there then prefixed is_bad else refused)
+  prefix-by true true = λ i. Ask (Typeprefix e.path) (λ answer. Done (record {
+    faults = repeated-told (is_some (typeprefix_in answer)) i;
+    additions = [];
+    step = Stays;
+  }))
+  prefix-by true false = λ i. Ask (Typeprefix e.path) (λ answer. Done (record {
+    faults = repeated-told (is_some (typeprefix_in answer)) i;
+    additions = TypePrefixes e.path t ∷ [];
+    step = Stays;
+  }))
+  prefix-by false true = refl
+  prefix-by false false = refl
+
+  abbrev remark_by : TextPurpose → Lookup Said
+  remark_by purpose = elim purpose [
+    | text.Context ↦ Done (refused_for [])
+    | text.Id ↦ and_then (about_entity at (Id t) e) (λ s. Done (if is_no_id t then record s { additions = [] } else s))
+    | text.Prefix ↦ if is_scope e.kind then prefixed (is_no_prefix t) else refused
+  ]
+
+  pub remark-told : (purpose : TextPurpose) → remark purpose at t e ≡ remark_by purpose
+  remark-told text.Context = refl
+  remark-told text.Id = refl
+  remark-told text.Prefix = prefix-by (is_scope e.kind) (is_no_prefix t)

@@ -5,6 +5,7 @@
 //! It stands apart since none of the code stands on it.
 #![tactic(auto)]
 
+mod cases;
 mod directives;
 mod forms;
 mod laws;
@@ -12,16 +13,19 @@ mod lexemes;
 mod names;
 mod paths;
 mod rows;
+mod rules;
 mod tables;
 mod visits;
 
+pub use cases::{begun, chosen, optional};
 pub use directives::{files, macros};
 pub use forms::{beginnings, firsts, kinds, tests};
 pub use laws::{additions, answers, conditions, pragmas, sameness, units};
 pub use lexemes::spellings;
-pub use names::denoting;
+pub use names::{denoting, remarks};
 pub use paths::outward;
 pub use rows::listing;
+pub use rules::{refusals, writings};
 pub use tables::{
     allowances, codes, declarations, expressions, literals, marks, numbers, operators, ranges,
     ranks, steps, tokens, types, uses,
