@@ -25,7 +25,8 @@ use Rattle.idl_lex.specs.kinds.Keywords.{folded}
 use Rattle.idl_memo.specs.Query.{Ask, Done, Tell, and_then}
 use Rattle.idl_parts.specs.declared.part.TextPurpose.{TextPurpose}
 use Rattle.idl_parts.specs.declared.part.TextPurpose.TheVariants as text
-use Rattle.idl_plain.specs.Names.{asked_in, asked_of}
+use Rattle.idl_plain.proofs.RuleLaws.{one}
+use Rattle.idl_plain.specs.Names.{asked_in, asked_of, remark_on}
 use Rattle.idl_scope.specs.Lookup.{before_module, by_result, decided, declares_at, denoted, extent, found_as, further, has, judged, placed, reach_by, reach_of}
 use Rattle.idl_scope.specs.Meaning.{searched, undeclared}
 use Rattle.idl_scope.specs.Question.{Lookup}
@@ -61,18 +62,20 @@ module _ (turns : ℕ) where
   abbrev on_result : ℕ → List (List ℕ) → Denoting → Lookup Denoting
   on_result part names r = by_result r (λ f. further turns (part + 1) f names) (λ fault. Done (Err fault))
 
-  mutual
-    parts-asked : (part : ℕ) (e : Entity) (names : List (List ℕ)) → further turns part e names ≡ asked_in turns part e names
-    parts-asked part e [] = refl
-    parts-asked part e (name ∷ names) =
-        let there = has turns e.kind e.path (folded name) in
-        ap (λ (q : Lookup Denoting). if is_scope e.kind then q else Done (Err (At NoScope part)))
-        (afterwards there (λ found. Done (placed (part + 1) (judged name found))) (on_result part names)
-        ∙ (λ i. and_then there (λ found. judged-asked part names (judged name found) i)))
+  judged-asked : (part : ℕ) (names : List (List ℕ))
+      → ((f : Entity) → further turns (part + 1) f names ≡ asked_in turns (part + 1) f names)
+      → (j : Result Entity NameCode) → on_result part names (placed (part + 1) j) ≡ on_asked part names j
+  judged-asked part names deeper (Ok f) = deeper f
+  judged-asked part names deeper (Err code) = refl
 
-    judged-asked : (part : ℕ) (names : List (List ℕ)) (j : Result Entity NameCode) → on_result part names (placed (part + 1) j) ≡ on_asked part names j
-    judged-asked part names (Ok f) = parts-asked (part + 1) f names
-    judged-asked part names (Err code) = refl
+  parts-asked : (part : ℕ) (e : Entity) (names : List (List ℕ)) → further turns part e names ≡ asked_in turns part e names
+  parts-asked part e [] = refl
+  parts-asked part e (name ∷ names) =
+      let there = has turns e.kind e.path (folded name) in
+      let deeper = judged-asked part names (λ f. parts-asked (part + 1) f names) in
+      ap (λ (q : Lookup Denoting). if is_scope e.kind then q else Done (Err (At NoScope part)))
+      (afterwards there (λ found. Done (placed (part + 1) (judged name found))) (on_result part names)
+      ∙ (λ i. and_then there (λ found. deeper (judged name found) i)))
 
   module _ (cursor : List Scope) (name : ScopedName) where
     abbrev given : ℕ → Entity → Denoting → Result Found NameFault
@@ -110,14 +113,12 @@ module _ (turns : ℕ) where
 
 pub outward-told : (scopes : List Scope) → before_module scopes ≡ prefix_len (λ s. not (kind_eq s.kind Module)) scopes
 outward-told [] = refl
-outward-told (s ∷ scopes) = by (kind_eq s.kind Module)
+outward-told (s ∷ scopes) = by (kind_eq s.kind Module) (outward-told scopes)
   where
-    more : suc (before_module scopes) ≡ 1 + prefix_len (λ s. not (kind_eq s.kind Module)) scopes
-    more = let h = outward-told scopes in omega (arith, h)
-
-    by : (b : Bool) → (if b then 0 else suc (before_module scopes)) ≡ cond (not b) (1 + prefix_len (λ s. not (kind_eq s.kind Module)) scopes) 0
-    by true = refl
-    by false = more
+    by : (b : Bool) → before_module scopes ≡ prefix_len (λ s. not (kind_eq s.kind Module)) scopes
+        → (if b then 0 else suc (before_module scopes)) ≡ cond (not b) (1 + prefix_len (λ s. not (kind_eq s.kind Module)) scopes) 0
+    by true rest = refl
+    by false rest = omega (arith, rest)
 
 module _ (cursor : List Scope) (inside : ℕ) (first : Entity) where
   abbrev itself : Option Scope → Bool
@@ -128,11 +129,7 @@ module _ (cursor : List Scope) (inside : ℕ) (first : Entity) where
 
   at-itself : (o : Option Scope) → at o ≡ itself o
   at-itself None = refl
-  at-itself (Some s) = by (path_eq (scope_of first.path) s.path)
-    where
-      by : (b : Bool) → b ≡ cond b true false
-      by true = refl
-      by false = refl
+  at-itself (Some s) = one (path_eq (scope_of first.path) s.path)
 
   abbrev reach_told : Bool → Bool → Reach
   reach_told is_global b =
@@ -207,14 +204,7 @@ module _ (at : ℕ) (t : List ℕ) (e : Entity) where
   prefix-by false true = refl
   prefix-by false false = refl
 
-  abbrev remark_by : TextPurpose → Lookup Said
-  remark_by purpose = elim purpose [
-    | text.Context ↦ Done (refused_for [])
-    | text.Id ↦ and_then (about_entity at (Id t) e) (λ s. Done (if is_no_id t then record s { additions = [] } else s))
-    | text.Prefix ↦ if is_scope e.kind then prefixed (is_no_prefix t) else refused
-  ]
-
-  pub remark-told : (purpose : TextPurpose) → remark purpose at t e ≡ remark_by purpose
+  pub remark-told : (purpose : TextPurpose) → remark purpose at t e ≡ remark_on purpose at t e
   remark-told text.Context = refl
   remark-told text.Id = refl
   remark-told text.Prefix = prefix-by (is_scope e.kind) (is_no_prefix t)

@@ -1,21 +1,20 @@
 -- Rules in fewer words.
 use Rattle.std.proofs.Common.{◌≡◌, ◌∙◌, ◌&&◌, ◌||◌, ◌++◌, [], ◌∷◌, ℕ, ℤ, Bool, List, None, Option, Some, ap, append-nil, drop, false, flat_map, length, map, nat_le, pos, refl, slice_get, sym, take, true}
 use Rattle.std.specs.List.{list_any}
-use Rattle.std.specs.Option.{option_and_then, option_map, option_to_list, unwrap_or}
+use Rattle.std.specs.Option.{option_and_then, option_map, option_to_list}
 use Rattle.std.specs.Ordering.{int_eq}
 use Rattle.std.specs.Prelude.{if◌then◌else◌}
 use Rattle.idl_check.specs.tables.Codes.{Table, codes_in, faults_by}
 use Rattle.idl_check.specs.tables.Rules.{depth, is_interface, is_useless_default}
 use Rattle.idl_check.specs.told.Bodies.{Body, Clauses, told_body, told_innermost, with_innermost}
 use Rattle.idl_check.specs.told.Labels.{Labels, is_idle}
-use Rattle.idl_check.specs.told.Types.{element_of, written_as}
+use Rattle.idl_check.specs.told.Types.{written_as}
 use Rattle.idl_check.specs.walk.Placing.{is_module, opened_kind, opening_faults}
 use Rattle.idl_check.specs.walk.Walk.{label_target, with_labels}
-use Rattle.idl_entity.specs.DataType.{plain_type, with_layer}
+use Rattle.idl_entity.specs.DataType.{plain_type}
 use Rattle.idl_entity.specs.Kind.{kind_eq}
 use Rattle.idl_entity.specs.declared.data_type.DataType.{DataType}
-use Rattle.idl_entity.specs.declared.data_type.Element.TheVariants.{Constants}
-use Rattle.idl_entity.specs.declared.data_type.Layer.TheVariants.{Sequence}
+use Rattle.idl_entity.specs.declared.data_type.Element.{Element}
 use Rattle.idl_entity.specs.declared.kind.Kind.{Kind}
 use Rattle.idl_entity.specs.declared.kind.Kind.TheVariants.{Interface, Module}
 use Rattle.idl_env.specs.Facts.{more_inside}
@@ -24,6 +23,8 @@ use Rattle.idl_fault.specs.declared.code.Code.TheVariants.{NestedTooDeep}
 use Rattle.idl_lex.specs.tokens.Tokens.{Token}
 use Rattle.idl_parts.specs.declared.part.Shape.{Shape}
 use Rattle.idl_parts.specs.declared.part.Shape.TheVariants as shape
+use Rattle.idl_plain.proofs.TableLaws.{basics-told}
+use Rattle.idl_plain.specs.Types.{type_in}
 use Rattle.idl_unit.specs.Ending.{begins, role}
 use Rattle.idl_unit.specs.Scoping.{opening_brace}
 use Rattle.idl_unit.specs.TokenRules.{fault_at}
@@ -31,7 +32,6 @@ use Rattle.idl_unit.specs.declared.fault.Fault.{Fault}
 use Rattle.idl_unit.specs.declared.role.Role.{Role}
 use Rattle.idl_value.specs.ConstantType.{value_count}
 use Rattle.idl_value.specs.declared.constant_type.ConstantType.{ConstantType}
-use Rattle.idl_value.specs.declared.constant_type.ConstantType.TheVariants as target
 
 -- ---- tests
 
@@ -83,12 +83,13 @@ useless-told unions = λ i. list_any (λ (l : Labels). idle-told l i) (take 1 un
 module _ (n : ℕ) where
   pub faults-told : (table : Table) → faults_by n table ≡ flat_map (λ row. if row.0 then fault_at n row.1 ∷ [] else []) table
   faults-told [] = refl
-  faults-told (row ∷ rows) = by row.0
+  faults-told (row ∷ rows) = by row.0 (faults-told rows)
     where
-      by : (b : Bool) → map (fault_at n) (if b then row.1 ∷ codes_in rows else codes_in rows)
+      by : (b : Bool) → map (fault_at n) (codes_in rows) ≡ flat_map (λ row. if row.0 then fault_at n row.1 ∷ [] else []) rows
+          → map (fault_at n) (if b then row.1 ∷ codes_in rows else codes_in rows)
           ≡ (if b then fault_at n row.1 ∷ [] else []) ++ flat_map (λ row. if row.0 then fault_at n row.1 ∷ [] else []) rows
-      by true = ap (λ (l : List Fault). fault_at n row.1 ∷ l) (faults-told rows)
-      by false = faults-told rows
+      by true rest = ap (λ (l : List Fault). fault_at n row.1 ∷ l) rest
+      by false rest = rest
 
 abbrev depth_faults : Option ℕ → Bool → List Fault
 depth_faults o b = elim o [ None ↦ [] | Some n ↦ faults_by n ((b, NestedTooDeep) ∷ []) ]
@@ -116,20 +117,8 @@ module _ (kind : Kind) where
 pub opened-told : (tokens : List Token) → opened_kind tokens ≡ option_map (λ n. if begins is_module tokens then Module else Interface) (opening_brace tokens)
 opened-told tokens = kind-told (if begins is_module tokens then Module else Interface) (opening_brace tokens)
 
-abbrev type_by : Shape → Option ℕ → Option DataType → Option DataType
-type_by s bound before = elim s [
-  | shape.Basic b ↦ Some (plain_type (element_of b))
-  | shape.Text is_wide is_bounded ↦
-      let most = if is_bounded then bound else None in
-      let text = if is_wide then target.WideText most else target.Text most in
-      Some (plain_type (Constants text))
-  | shape.Sequence is_bounded ↦
-      let most = if is_bounded then unwrap_or bound 0 else 0 in
-      option_map (with_layer (Sequence most)) before
-]
-
-pub written-told : (s : Shape) (bound : Option ℕ) (before : Option DataType) → written_as s bound before ≡ type_by s bound before
-written-told (shape.Basic b) bound before = refl
+pub written-told : (s : Shape) (bound : Option ℕ) (before : Option DataType) → written_as s bound before ≡ type_in s bound before
+written-told (shape.Basic b) bound before = ap (λ (e : Element). Some (plain_type e)) (basics-told b)
 written-told (shape.Text true is_bounded) bound before = refl
 written-told (shape.Text false is_bounded) bound before = refl
 written-told (shape.Sequence is_bounded) bound None = refl

@@ -3,6 +3,7 @@ pub mod Allowance
 pub mod Codes
 pub mod Condition
 pub mod Declared
+pub mod Directives
 pub mod Ending
 pub mod Expression
 pub mod Macros

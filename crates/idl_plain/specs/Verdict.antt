@@ -30,7 +30,8 @@ asked_verdict turns (unit.Tokens tokens) = Ask Cursor (λ cursor.
       | None ↦ elim (tree_of tokens) [
         | Err place ↦ refused tokens (fault_at place NoTree)
         | Ok tree ↦
-            let first = record (first_walk scopes) { fault = least_fault (place_faults tree scopes) } in
+            let misplaced = least_fault (place_faults tree scopes) in
+            let first = record (first_walk scopes) { fault = misplaced } in
             and_then (walk turns (items (unit_parts tree)) first) (λ w. elim w.fault [
               | Some fault ↦ refused tokens fault
               | None ↦ elim (step_of tree (path_around scopes)) [

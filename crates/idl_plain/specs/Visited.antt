@@ -1,5 +1,5 @@
 -- What comes of the sites of a unit over the answers before it. Nothing is asked on the way.
-use Rattle.std.specs.Prelude.{◌&&◌, ◌+◌, ◌++◌, [], ◌∷◌, Err, None, Ok, Option, Some, drop, fold, is_some, not, ℕ, if◌then◌else◌}
+use Rattle.std.specs.Prelude.{◌&&◌, ◌+◌, ◌++◌, [], ◌∷◌, Err, None, Ok, Option, Result, Some, drop, fold, is_some, not, ℕ, if◌then◌else◌}
 use Rattle.std.specs.List.{list_any}
 use Rattle.std.specs.Option.{option_to_list}
 use Rattle.idl_check.specs.ids.About.{unnamed_faults}
@@ -30,7 +30,7 @@ use Rattle.idl_env.specs.declared.keys.key.Key.{Key}
 use Rattle.idl_env.specs.declared.keys.key.Key.TheVariants.{Introduced, Prefix}
 use Rattle.idl_fault.specs.declared.code.Code.TheVariants as code
 use Rattle.idl_lex.specs.kinds.Keywords.{folded}
-use Rattle.idl_memo.specs.Query.{outcome}
+use Rattle.idl_memo.specs.Query.{Done, and_then, outcome}
 use Rattle.idl_parts.specs.Item.{Item, item_length}
 use Rattle.idl_parts.specs.Part.{Part as item}
 use Rattle.idl_parts.specs.declared.part.Purpose.{Purpose}
@@ -40,9 +40,11 @@ use Rattle.idl_parts.specs.declared.part.Use.{Use}
 use Rattle.idl_parts.specs.declared.part.Use.TheVariants.{AsDiscriminator, AsOperand}
 use Rattle.idl_scope.specs.Known.{known}
 use Rattle.idl_scope.specs.Lookup.{denoted, is_nothing, reached}
+use Rattle.idl_scope.specs.Question.{Lookup, under}
 use Rattle.idl_scope.specs.Meaning.{bases_at, own_at}
 use Rattle.idl_scope.specs.declared.fault.NameFault.{NameFault}
 use Rattle.idl_scope.specs.declared.fault.NameFault.TheVariants.{At, Memory}
+use Rattle.idl_scope.specs.declared.found.Found.{Found}
 use Rattle.idl_tree.specs.NameParts.{last_at, part_at}
 use Rattle.idl_tree.specs.declared.name.ScopedName.{ScopedName}
 use Rattle.idl_unit.specs.TokenRules.{fault_at, first}
@@ -110,6 +112,23 @@ array_left w =
         own = with_addition w.own (Declares array);
         bodies = with_innermost (with_array_type array) w.bodies;
       }
+    ]
+
+-- behind a name that denotes this, if it does, and of which the text behind it says something
+abbrev pub spoken_by : TextPurpose → ScopedName → Walk → Result Found NameFault → Lookup Visit
+spoken_by purpose name w r =
+    let behind = record w { at = last_at w.at name + 1 } in
+    elim r [
+      | Err fault ↦ Done (record { faults = unnamed_faults w.at name fault; after = behind })
+      | Ok found ↦
+          let said = remark purpose (last_at w.at name) w.text found.entity in
+          and_then (under w.own said) (λ s. Done (record {
+            faults = s.faults;
+            after = record behind {
+              own = fold with_addition w.own s.additions;
+              found = w.found ++ found.entity.path ∷ [];
+            };
+          }))
     ]
 
 -- what stands in a scope under the name of what is declared there, over these answers

@@ -42,14 +42,16 @@ ghost use Rattle.idl_value.specs.declared.constant_type.ConstantType.{ConstantTy
 pub fn optional()
     ensures paths { (t : Option DataType) → path_in t ≡ option_and_then named_in t }
     ensures targets { (t : Option DataType) → target_in t ≡ option_and_then constants_in t }
-    ensures switches { (t : Option ConstantType) → may_switch t ≡ option_map_or discriminates t false }
+    ensures switches { (t : Option ConstantType) → may_switch t
+        ≡ option_map_or discriminates t false }
     ensures values { (t : Option ConstantType) (operands : Operands) (e : Expression)
         → evaluation_in t operands e ≡ option_map_or (λ t. value_of t operands e) t (Faulty []) }
     ensures there { (old : Option Entity) (test : Entity → Bool) → is_there old test
         ≡ option_map_or test old false }
     ensures bases { (e : Option Entity) → bases_of e
         ≡ option_map_or (λ e. if has_bases e.stage then e.bases else []) e [] }
-    ensures operations { (e : Option Entity) → operations_of e ≡ option_map_or (λ e. e.operations) e [] }
+    ensures operations { (e : Option Entity) → operations_of e
+        ≡ option_map_or (λ e. e.operations) e [] }
     ensures raised { (e : Option Entity) (clauses : Clauses) → raising e clauses
         ≡ filter (λ e. kind_eq e.kind Attribute && raises clauses) (option_to_list e) }
     ensures arrays { (lengths : List ℕ) (t : Option DataType) → array_type lengths t
@@ -57,7 +59,8 @@ pub fn optional()
     ensures prefixes { (text : Option (List ℕ)) (p : Prefix) → prefix_told text p
         ≡ option_map_or (λ t. record { text = t; scope = [] }) text p }
     ensures taken { (name : Option (List ℕ × ℕ)) → taken_by name ≡ option_map_or (λ n. n.1) name 0 }
-    ensures rows { (place : Place) (code : Code) (text : Option (List ℕ)) → diagnostic_row place code text
+    ensures rows { (place : Place) (code : Code) (text : Option (List ℕ))
+        → diagnostic_row place code text
         ≡ head_row place code ++ option_map_or (λ t. codes " " ++ t) text [] }
 {}
 

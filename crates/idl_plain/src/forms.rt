@@ -73,7 +73,8 @@ pub fn beginnings()
 /// These kinds of names are types, these are scopes, and all but these have ids.
 pub fn kinds()
     ensures types { (k : Kind) → is_type k ≡ list_any (kind_eq k)
-        (kind.Interface ∷ kind.Structure ∷ kind.Union ∷ kind.Enumeration ∷ kind.Alias ∷ kind.Native ∷ []) }
+        (kind.Interface ∷ kind.Structure ∷ kind.Union ∷ kind.Enumeration ∷ kind.Alias ∷ kind.Native
+        ∷ []) }
     ensures scopes { (k : Kind) → is_scope k ≡ list_any (kind_eq k)
         (kind.Module ∷ kind.Interface ∷ kind.Structure ∷ kind.Union ∷ kind.Exception ∷ []) }
     ensures ids { (k : Kind) → has_id k

@@ -87,7 +87,8 @@ pub fn additions()
         ≡ flat_map operation_by additions }
     ensures inherited { (answers : Key → Option Answer) (found bases : List (List (List ℕ)))
         → gathered answers found bases
-        ≡ fold (λ paths b. joined paths (operations_of (entity_in (answers (entity_key b))))) found bases }
+        ≡ fold (λ found b. joined found (operations_of (entity_in (answers (entity_key b)))))
+        found bases }
 {}
 
 /// An answer tells a file's lines, or the tokens of a macro's body, and an item an event, in one form alone.

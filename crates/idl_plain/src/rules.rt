@@ -1,21 +1,18 @@
 //! The laws of rules: that each is told in fewer words.
 
-ghost use Rattle.std.specs.Prelude.{◌≡◌, ◌&&◌, ◌||◌, ◌∷◌, [], ℕ, List, None, Option, Some, flat_map, length, map, nat_eq, nat_le, not, pos, take, if◌then◌else◌};
+ghost use Rattle.std.specs.Prelude.{◌≡◌, ◌&&◌, ◌||◌, ◌∷◌, [], ℕ, List, Option, flat_map, length, map, nat_eq, nat_le, not, pos, take, if◌then◌else◌};
 ghost use Rattle.std.specs.List.{list_any};
-ghost use Rattle.std.specs.Option.{option_and_then, option_map, option_to_list, unwrap_or};
+ghost use Rattle.std.specs.Option.{option_and_then, option_map, option_to_list};
 ghost use Rattle.std.specs.Ordering.{int_eq};
 ghost use Rattle.std.specs.Str.{bytes_eq};
 ghost use Rattle.idl_check.specs.tables.Codes.{Table, faults_by};
 ghost use Rattle.idl_check.specs.tables.Rules.{depth, is_interface, is_label_again, is_no_id, is_useless_default, is_visible, may_be_ahead, may_follow};
 ghost use Rattle.idl_check.specs.told.Labels.{Labels};
-ghost use Rattle.idl_check.specs.told.Types.{element_of, written_as};
+ghost use Rattle.idl_check.specs.told.Types.{written_as};
 ghost use Rattle.idl_check.specs.walk.Placing.{is_module, opened_kind, opening_faults};
-ghost use Rattle.idl_entity.specs.DataType.{plain_type, with_layer};
 ghost use Rattle.idl_entity.specs.Kind.{kind_eq, stage_eq};
 ghost use Rattle.idl_entity.specs.Path.{name_of};
 ghost use Rattle.idl_entity.specs.declared.data_type.DataType.{DataType};
-ghost use Rattle.idl_entity.specs.declared.data_type.Element.TheVariants.{Constants};
-ghost use Rattle.idl_entity.specs.declared.data_type.Layer.TheVariants.{Sequence};
 ghost use Rattle.idl_entity.specs.declared.entity.Entity.{Entity};
 ghost use Rattle.idl_entity.specs.declared.kind.Kind.TheVariants.{Interface, Module};
 ghost use Rattle.idl_entity.specs.declared.kind.Stage.TheVariants.{Ahead};
@@ -23,13 +20,12 @@ ghost use Rattle.idl_env.specs.declared.answering.answer.Scope.{Scope};
 ghost use Rattle.idl_fault.specs.declared.code.Code.TheVariants.{NestedTooDeep};
 ghost use Rattle.idl_lex.specs.tokens.Tokens.{Token};
 ghost use Rattle.idl_parts.specs.declared.part.Shape.{Shape};
-ghost use Rattle.idl_parts.specs.declared.part.Shape.TheVariants as shape;
+ghost use Rattle.idl_plain.specs.Types.{type_in};
 ghost use Rattle.idl_unit.specs.Ending.{begins};
 ghost use Rattle.idl_unit.specs.Scoping.{opening_brace};
 ghost use Rattle.idl_unit.specs.TokenRules.{fault_at};
 ghost use Rattle.idl_value.specs.ConstantType.{value_count};
 ghost use Rattle.idl_value.specs.Equal.{value_eq};
-ghost use Rattle.idl_value.specs.declared.constant_type.ConstantType.TheVariants as target;
 ghost use Rattle.idl_value.specs.declared.value.Value.{Value};
 
 /// What may be declared again, which labels a union may have, what an id is, and how many scopes may be open.
@@ -62,14 +58,5 @@ pub fn writings()
         ≡ option_map (λ n. if begins is_module tokens then Module else Interface)
         (opening_brace tokens) }
     ensures types { (s : Shape) (bound : Option ℕ) (before : Option DataType)
-        → written_as s bound before ≡ elim s [
-          | shape.Basic b ↦ Some (plain_type (element_of b))
-          | shape.Text is_wide is_bounded ↦
-              let most = if is_bounded then bound else None in
-              let text = if is_wide then target.WideText most else target.Text most in
-              Some (plain_type (Constants text))
-          | shape.Sequence is_bounded ↦
-              let most = if is_bounded then unwrap_or bound 0 else 0 in
-              option_map (with_layer (Sequence most)) before
-        ] }
+        → written_as s bound before ≡ type_in s bound before }
 {}

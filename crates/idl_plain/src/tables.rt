@@ -1,22 +1,14 @@
 //! The laws that a table has what several definitions say.
 
-ghost use Rattle.std.specs.Prelude.{◌≡◌, ◌↔◌, ◌∷◌, ◌++◌, ◌+◌, ◌-◌, ◌^◌, ◌&&◌, ◌||◌, [], ℕ, ℤ, Bool, Contains, Err, List, None, Ok, Option, Some, filter, flat_map, int_le, is_some, map, max, nat_eq, nat_le, nat_lt, neg_ℤ, pos, take, true, if◌then◌else◌};
+ghost use Rattle.std.specs.Prelude.{◌≡◌, ◌↔◌, ◌∷◌, ◌++◌, ◌+◌, ◌-◌, ◌^◌, ◌&&◌, [], ℕ, ℤ, Bool, Contains, Err, List, None, Ok, Option, Some, flat_map, int_le, is_some, map, max, nat_eq, nat_le, nat_lt, neg_ℤ, pos, take, true, if◌then◌else◌};
 ghost use Rattle.std.specs.List.{enumerate_from, prefix_len};
 ghost use Rattle.std.specs.Map.{lookup};
-ghost use Rattle.idl_check.specs.tables.Codes.{faults_by};
 ghost use Rattle.idl_check.specs.tables.Declaring.{Written, entity_of};
-ghost use Rattle.idl_check.specs.tables.Using.{Bases, used_table, with_uses};
+ghost use Rattle.idl_check.specs.tables.Using.{Bases, used_table};
 ghost use Rattle.idl_check.specs.told.Bodies.{Body, with_innermost, with_member};
 ghost use Rattle.idl_check.specs.walk.Walk.{Walk, declared_visit, used_after, with_scope};
-ghost use Rattle.idl_check.specs.told.Types.{element_of};
 ghost use Rattle.idl_check.specs.declared.tables.standing.Standing.{Standing};
-ghost use Rattle.idl_entity.specs.DataType.{plain_type};
-ghost use Rattle.idl_entity.specs.Kind.{kind_eq, stage_eq};
-ghost use Rattle.idl_entity.specs.Path.{name_of};
-ghost use Rattle.idl_entity.specs.declared.data_type.Element.TheVariants.{Named};
 ghost use Rattle.idl_entity.specs.declared.entity.Entity.{Entity};
-ghost use Rattle.idl_entity.specs.declared.kind.Kind.TheVariants.{Constant, Enumeration, Interface, Member as MemberKind, Parameter};
-ghost use Rattle.idl_entity.specs.declared.kind.Stage.TheVariants.{Begun};
 ghost use Rattle.idl_env.specs.Facts.{World, after_step};
 ghost use Rattle.idl_env.specs.declared.additions.addition.Step.{Step};
 ghost use Rattle.idl_env.specs.declared.answering.answer.Scope.{Scope};
@@ -27,7 +19,6 @@ ghost use Rattle.idl_fault.specs.Code.{number_of};
 ghost use Rattle.idl_fault.specs.declared.code.Code.{Code};
 ghost use Rattle.idl_fault.specs.declared.code.Code.TheVariants.{WrongKind};
 ghost use Rattle.idl_lex.specs.bytes.Byte.{is_digit_of};
-ghost use Rattle.idl_lex.specs.kinds.Keywords.{folded};
 ghost use Rattle.idl_lex.specs.kinds.Literal.{by_number, simple_escape};
 ghost use Rattle.idl_lex.specs.kinds.Marks.{marks as all_marks};
 ghost use Rattle.idl_lex.specs.kinds.Number.{are_digits, based, integer_value, is_floating, number, number_kind};
@@ -39,7 +30,7 @@ ghost use Rattle.idl_parts.specs.declared.part.Declaration.{Declaration};
 ghost use Rattle.idl_parts.specs.declared.part.Use.{Use};
 ghost use Rattle.idl_plain.specs.Allowance.{left_behind};
 ghost use Rattle.idl_plain.specs.Codes.{rows};
-ghost use Rattle.idl_plain.specs.Declared.{declared, declared_in, directions, rules_of_declared};
+ghost use Rattle.idl_plain.specs.Declared.{declared, declared_at, member_in};
 ghost use Rattle.idl_plain.specs.Expression.{read};
 ghost use Rattle.idl_plain.specs.Marks.{letters, preprocessing, punctuation};
 ghost use Rattle.idl_plain.specs.Operators.{before, between};
@@ -47,11 +38,10 @@ ghost use Rattle.idl_plain.specs.Ranks.{ranked_parts, ranked_term};
 ghost use Rattle.idl_plain.specs.Steps.{stepped};
 ghost use Rattle.idl_plain.specs.Tokens.{codes_behind};
 ghost use Rattle.idl_plain.specs.Types.{of_basics, of_integers, of_types};
-ghost use Rattle.idl_plain.specs.Used.{rules_of_used, walk_behind};
+ghost use Rattle.idl_plain.specs.Used.{introduced, rules_of_used, walk_behind};
 ghost use Rattle.idl_repo.specs.TypeCode.{integer_word};
 ghost use Rattle.idl_scope.specs.declared.found.Found.{Found};
 ghost use Rattle.idl_tree.specs.DataType.{spell_basic, spell_discrete};
-ghost use Rattle.idl_tree.specs.NameParts.{last_at};
 ghost use Rattle.idl_tree.specs.declared.declarations.data_type.BasicType.{BasicType};
 ghost use Rattle.idl_tree.specs.declared.declarations.data_type.DiscreteType.{DiscreteType};
 ghost use Rattle.idl_tree.specs.declared.expression.Expression.{Expression};
@@ -78,7 +68,6 @@ pub fn types()
     ensures spelled { (t : DiscreteType) → spell_discrete t ≡ (of_types t).0 }
     ensures kinds { (t : DiscreteType) → target_of t ≡ (of_types t).1 }
     ensures basics { (t : BasicType) → spell_basic t ≡ (of_basics t).0 }
-    ensures elements { (t : BasicType) → element_of t ≡ (of_basics t).1 }
 {}
 
 /// Of each form of declaration one line tells what it declares; a scope begins as one that is declared so. And one line tells each rule.
@@ -91,36 +80,9 @@ pub fn declarations()
         ≡ (let e = declared w (name ∷ s.path) way in
         record { path = e.path; kind = e.kind; body = 1 } ∷ s ∷ scopes)) }
     ensures visits { (w : Walk) (way : Declaration) (s : Scope) (e : Entity) (standing : Standing)
-        → declared_visit w way s e standing ≡ record {
-          faults = faults_by w.at (rules_of_declared s standing e);
-          after = record w {
-            at = w.at + 1;
-            own = declared_in standing e w.own;
-            begun = w.begun ++ filter (λ e. stage_eq e.stage Begun
-                && (kind_eq e.kind Interface || kind_eq e.kind Constant)) (e ∷ []);
-            written =
-                if kind_eq e.kind Enumeration
-                then record w.written {
-                  data_type = Some (plain_type (Named e.path));
-                  enumeration = e.path;
-                } else w.written;
-            last = Some e;
-            bodies = with_member way e w.bodies;
-          };
-        } }
+        → declared_visit w way s e standing ≡ declared_at w way s e standing }
     ensures members { (way : Declaration) (e : Entity) (bodies : List Body)
-        → with_member way e bodies ≡ with_innermost (λ b.
-          if kind_eq e.kind MemberKind || kind_eq e.kind Parameter
-          then record b {
-            members = b.members ++ record {
-              name = name_of e.path;
-              data_type = e.data_type;
-              labels = b.labels;
-              goes_in = (directions way).0;
-              comes_out = (directions way).1;
-            } ∷ [];
-            labels = [];
-          } else b) bodies }
+        → with_member way e bodies ≡ with_innermost (member_in way e) bodies }
 {}
 
 /// Of each change of the open scopes, of the files entered, or of the prefix one line tells what it does.
@@ -134,11 +96,8 @@ pub fn uses()
         ≡ (let rules = rules_of_used way bases e behind in
         if rules.0 then rules.1 else (true, WrongKind) ∷ []) }
     ensures behind { (w : Walk) (way : Use) (name : ScopedName) (found : Found) (behind : Entity)
-        → used_after w way name found behind ≡ walk_behind way found.entity behind (record w {
-          at = last_at w.at name + 1;
-          own = with_uses (folded name.first) found.reach w.cursor w.own;
-          found = w.found ++ found.entity.path ∷ [];
-        }) }
+        → used_after w way name found behind
+        ≡ walk_behind way found.entity behind (introduced w name found) }
 {}
 
 /// The values of an integer type are those of its bits, with a sign or without; and each part of one is within those of 32 bits at least,

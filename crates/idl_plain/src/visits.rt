@@ -1,25 +1,21 @@
 //! The laws of sites: what comes of each over answers, without a question; and of what a walk is asked in fewer words.
 
-ghost use Rattle.std.specs.Prelude.{◌≡◌, ◌+◌, ◌++◌, ◌∷◌, [], Err, List, Ok, Option, fold, ℕ};
-ghost use Rattle.idl_check.specs.ids.About.{unnamed_faults};
-ghost use Rattle.idl_check.specs.ids.Remarks.{remark};
+ghost use Rattle.std.specs.Prelude.{◌≡◌, List, Option, fold, ℕ};
 ghost use Rattle.idl_check.specs.walk.AllFaults.{whole_visit};
 ghost use Rattle.idl_check.specs.walk.Judging.{walked};
 ghost use Rattle.idl_check.specs.walk.Verdict.{verdict};
 ghost use Rattle.idl_check.specs.walk.Walk.{Walk, ended_array, scope_visit, spoken_of, turns_at, unfound_visit};
-ghost use Rattle.idl_env.specs.Facts.{with_addition};
 ghost use Rattle.idl_env.specs.declared.answering.answer.Answer.{Answer};
 ghost use Rattle.idl_env.specs.declared.keys.key.Key.{Key};
-ghost use Rattle.idl_memo.specs.Query.{Done, and_then};
+ghost use Rattle.idl_memo.specs.Query.{and_then};
 ghost use Rattle.idl_parts.specs.Item.{Item};
 ghost use Rattle.idl_parts.specs.declared.part.TextPurpose.{TextPurpose};
 ghost use Rattle.idl_parts.specs.declared.part.Use.{Use};
 ghost use Rattle.idl_plain.specs.Verdict.{asked_verdict};
-ghost use Rattle.idl_plain.specs.Visited.{array_left, scope_left, unfound_at, visited};
+ghost use Rattle.idl_plain.specs.Visited.{array_left, scope_left, spoken_by, unfound_at, visited};
 ghost use Rattle.idl_scope.specs.Lookup.{denoted};
 ghost use Rattle.idl_scope.specs.Question.{under};
 ghost use Rattle.idl_scope.specs.declared.fault.NameFault.{NameFault};
-ghost use Rattle.idl_tree.specs.NameParts.{last_at};
 ghost use Rattle.idl_tree.specs.declared.name.ScopedName.{ScopedName};
 ghost use Rattle.idl_unit.specs.declared.unit.UnitText.{UnitText};
 
@@ -39,19 +35,9 @@ pub fn behind()
     ensures unfound { (w : Walk) (way : Use) (name : ScopedName) (fault : NameFault)
         → unfound_visit w way name fault ≡ unfound_at w way name fault }
     ensures spoken { (turns : ℕ) (purpose : TextPurpose) (name : ScopedName) (w : Walk)
-        → spoken_of turns purpose name w ≡ (
-        let behind = record w { at = last_at w.at name + 1 } in
-        and_then (under w.own (denoted (turns_at turns w) w.cursor name)) (λ r. elim r [
-          | Err fault ↦ Done (record { faults = unnamed_faults w.at name fault; after = behind })
-          | Ok found ↦ and_then (under w.own
-              (remark purpose (last_at w.at name) w.text found.entity)) (λ s. Done (record {
-              faults = s.faults;
-              after = record behind {
-                own = fold with_addition w.own s.additions;
-                found = w.found ++ found.entity.path ∷ [];
-              };
-            }))
-        ])) }
+        → spoken_of turns purpose name w
+        ≡ and_then (under w.own (denoted (turns_at turns w) w.cursor name))
+        (spoken_by purpose name w) }
 {}
 
 /// A unit is told, and asks, by the first of the steps in which a fault is; and else by all that its sites come to.
