@@ -1,5 +1,5 @@
 -- What is one thing with a value, or of a choice, and another without it.
-use Rattle.std.proofs.Common.{◌≡◌, ◌&&◌, ◌++◌, ◌∷◌, [], Bool, List, None, Option, Some, append-nil, codes, cond, drop, false, filter, refl, slice_get, sym, take, true, ℕ}
+use Rattle.std.proofs.Common.{◌≡◌, ◌&&◌, ◌∷◌, [], Bool, List, None, Option, Some, codes, cond, drop, false, filter, refl, slice_get, take, true, ℕ}
 use Rattle.std.specs.List.{list_any}
 use Rattle.std.specs.Option.{option_and_then, option_map, option_map_or, option_to_list, unwrap_or}
 use Rattle.std.specs.Prelude.{if◌then◌else◌}
@@ -16,9 +16,6 @@ use Rattle.idl_entity.specs.declared.entity.Entity.{Entity}
 use Rattle.idl_entity.specs.declared.identity.Prefix.{Prefix}
 use Rattle.idl_entity.specs.declared.kind.Kind.TheVariants.{Attribute}
 use Rattle.idl_env.specs.Facts.{operations_of}
-use Rattle.idl_fault.specs.Diagnostic.{diagnostic_row, head_row}
-use Rattle.idl_fault.specs.declared.code.Code.{Code}
-use Rattle.idl_fault.specs.declared.place.Place.{Place}
 use Rattle.idl_lex.specs.declared.tokens.token.PlacedToken.{PlacedToken}
 use Rattle.idl_macro.specs.Condition.{taken_by, truth}
 use Rattle.idl_macro.specs.Directives.{begins_parameters, opens_parameters}
@@ -86,10 +83,6 @@ prefix-told (Some t) p = refl
 pub taken-told : (name : Option (List ℕ × ℕ)) → taken_by name ≡ option_map_or (λ n. n.1) name 0
 taken-told None = refl
 taken-told (Some n) = refl
-
-pub row-told : (place : Place) (code : Code) (text : Option (List ℕ)) → diagnostic_row place code text ≡ head_row place code ++ option_map_or (λ t. codes " " ++ t) text []
-row-told place code None = sym (append-nil (head_row place code))
-row-told place code (Some t) = refl
 
 pub truth-told : (b : Bool) → truth b ≡ (if b then codes "1" else codes "0")
 truth-told true = refl

@@ -5,6 +5,7 @@ use Rattle.std.specs.Prelude.{if◌then◌else◌}
 use Rattle.idl_check.specs.ids.About.{Said, unnamed_faults}
 use Rattle.idl_check.specs.ids.Identifying.{id_before, ids_of}
 use Rattle.idl_check.specs.ids.Remarks.{purpose_of, remark}
+use Rattle.idl_check.specs.tables.Codes.{faults_by}
 use Rattle.idl_check.specs.tables.Declaring.{entity_of, inherited, is_any, standing}
 use Rattle.idl_check.specs.tables.Rules.{has_id, is_useless_default, may_be_ahead}
 use Rattle.idl_check.specs.tables.Using.{name_code, values_after}
@@ -41,6 +42,10 @@ use Rattle.idl_parts.specs.declared.part.Purpose.TheVariants as purpose
 use Rattle.idl_parts.specs.declared.part.TextPurpose.{TextPurpose}
 use Rattle.idl_parts.specs.declared.part.Use.{Use}
 use Rattle.idl_parts.specs.declared.part.Use.TheVariants.{AsDiscriminator, AsOperand}
+use Rattle.idl_plain.proofs.DeclaredLaws.{visit-told}
+use Rattle.idl_plain.proofs.TableLaws.{uses-left, uses-told}
+use Rattle.idl_plain.specs.Declared.{declared_at}
+use Rattle.idl_plain.specs.Used.{introduced, rules_of_used, walk_behind}
 use Rattle.idl_plain.specs.Visited.{array_left, named_at, scope_left, seen_at, spoken_at, standing_at, unfound, unfound_at, valued, visited}
 use Rattle.idl_scope.proofs.FactsLaws.{outcome-under}
 use Rattle.idl_scope.specs.Known.{known}
@@ -199,33 +204,6 @@ module _ (w : Walk) where
   pub array-told : ended_array w ≡ array_left w
   array-told = array-by w.last
 
-module _ (turns : ℕ) (purpose : TextPurpose) (name : ScopedName) (w : Walk) where
-  abbrev speaks : Result Found NameFault → Lookup Visit
-  speaks r =
-      let behind = record w { at = last_at w.at name + 1 } in
-      elim r [
-        | Err fault ↦ Done (record { faults = unnamed_faults w.at name fault; after = behind })
-        | Ok found ↦ and_then (under w.own (remark purpose (last_at w.at name) w.text found.entity)) (λ s. Done (record {
-            faults = s.faults;
-            after = record behind {
-              own = fold with_addition w.own s.additions;
-              found = w.found ++ found.entity.path ∷ [];
-            };
-          }))
-      ]
-
-  speaks-by : (r : Result Found NameFault)
-      → by_result r
-      (λ found. and_then (under w.own (remark purpose (last_at w.at name) w.text found.entity)) (λ s. Done (spoken_visit w name found s)))
-      (λ fault. Done (unspoken_visit w name fault))
-      ≡ speaks r
-  speaks-by (Ok found) = refl
-  speaks-by (Err fault) = refl
-
-  pub spoken-told : spoken_of turns purpose name w ≡ and_then (under w.own (denoted (turns_at turns w) w.cursor name)) speaks
-  unfolding spoken_of
-  spoken-told = λ i. and_then (under w.own (denoted (turns_at turns w) w.cursor name)) (λ r. speaks-by r i)
-
 module _ (turns : ℕ) (answers : Key → Option Answer) where
   abbrev seen : Walk → Key → Option Answer
   seen w = seen_at turns answers w
@@ -237,16 +215,31 @@ module _ (turns : ℕ) (answers : Key → Option Answer) where
     abbrev of_result : Result Found NameFault → Lookup Visit
     of_result r = by_result r of_found (λ fault. Done (unfound_visit w way name fault))
 
+    abbrev used_as : Found → Entity → Visit
+    used_as found behind =
+        let rules = rules_of_used way w.bases found.entity behind in
+        record {
+          faults = faults_by (last_at w.at name) (if rules.0 then rules.1 else (true, code.WrongKind) ∷ []);
+          after = walk_behind way found.entity behind (introduced w name found);
+        }
+
+    used-as : (found : Found) (behind : Entity) → used_visit w way name found behind ≡ used_as found behind
+    used-as found behind = λ i. record {
+      faults = faults_by (last_at w.at name) (uses-told way w.bases found.entity behind i);
+      after = uses-left way w name found behind i;
+    }
+
     abbrev named_by : Result Found NameFault → Visit
     named_by r = elim r [
       | Err fault ↦ unfound_at w way name fault
-      | Ok found ↦ used_visit w way name found (outcome (looked_through (turns_at turns w) way found.entity) (seen w))
+      | Ok found ↦ used_as found (outcome (looked_through (turns_at turns w) way found.entity) (seen w))
     ]
 
     result-is : (r : Result Found NameFault) → outcome (of_result r) answers ≡ named_by r
     result-is (Ok found) =
         outcome-and_then (under w.own (looked_through (turns_at turns w) way found.entity)) (λ behind. Done (used_visit w way name found behind)) answers
         ∙ ap (λ (behind : Entity). used_visit w way name found behind) (outcome-under w.own answers (looked_through (turns_at turns w) way found.entity))
+        ∙ used-as found (outcome (looked_through (turns_at turns w) way found.entity) (seen w))
     result-is (Err fault) = unfound-at w way name fault
 
     used-is : outcome (used turns way name w) answers ≡ named_at turns answers way name w
@@ -314,7 +307,7 @@ module _ (turns : ℕ) (answers : Key → Option Answer) where
     declared_from o = elim o [
       | None ↦ quiet (passed 1 w)
       | Some s ↦ let e = entity_of w.written way name s.path in
-          declared_visit w way s e (standing_at (turns_at turns w) (seen w) s e)
+          declared_at w way s e (standing_at (turns_at turns w) (seen w) s e)
     ]
 
     declared-by : (o : Option Scope) → outcome (declares o) answers ≡ declared_from o
@@ -323,6 +316,7 @@ module _ (turns : ℕ) (answers : Key → Option Answer) where
         let e = entity_of w.written way name s.path in
         outcome-and_then (under w.own (standing (turns_at turns w) s e)) (λ there. Done (declared_visit w way s e there)) answers
         ∙ ap (λ (there : Standing). declared_visit w way s e there) (outcome-under w.own answers (standing (turns_at turns w) s e) ∙ standing-is (turns_at turns w) (seen w) s e)
+        ∙ visit-told w way s e (standing_at (turns_at turns w) (seen w) s e)
 
   value-by : (way : Purpose) (w : Walk) (v : Evaluation) → (value_visit w way (first_of v)).after ≡ valued w way v
   value-by purpose.Bound w (Valued v) = refl

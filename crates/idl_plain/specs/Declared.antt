@@ -97,8 +97,8 @@ rules_of_declared s standing e =
     ∷ (kind_eq s.kind kind.Structure && standing.is_reached, code.ReachedThroughBase)
     ∷ (has_other_prefix standing.ids, code.OtherPrefix) ∷ []
 
--- What a declared name adds: its id, where it is declared first, and the entity, but where a module is
--- opened again, or a declaration ahead comes again, which leave what is there.
+-- What a declared name adds: its id, where it is declared first, and the entity, but where a module
+-- is opened again, or a declaration ahead comes again, which leave what is there.
 abbrev pub declared_in : Standing → Entity → List Addition → List Addition
 declared_in standing e own =
     let first = if is_none standing.there then option_to_list standing.ids else [] in
@@ -107,8 +107,8 @@ declared_in standing e own =
     if is_there standing.there (λ old. may_follow old e && is_again) then identified
     else with_addition identified (Declares e)
 
--- what comes of a declared name in a scope, by what stands there: an enum is a type from then on, and
--- the unit's end finishes an interface or a constant
+-- what comes of a declared name in a scope, by what stands there: an enum is a type from then on,
+-- and the unit's end finishes an interface or a constant
 abbrev pub declared_at : Walk → Declaration → Scope → Entity → Standing → Visit
 declared_at w way s e standing =
     let is_begun : Entity → Bool = λ e. stage_eq e.stage Begun

@@ -1,5 +1,5 @@
--- How a name is looked up: what its parts denote, one after another, how far its use goes, and what is
--- said of it.
+-- How a name is looked up: what its parts denote, one after another, how far its use goes, and what
+-- is said of it.
 use Rattle.std.specs.Prelude.{ℕ, ◌+◌, ◌-◌, List, [], ◌∷◌, ◌++◌, Err, None, Ok, Result, drop, is_some, map, min, scan, slice_get, suc, take, if◌then◌else◌}
 use Rattle.std.specs.List.{list_any}
 use Rattle.std.specs.Option.{option_to_list}
@@ -56,9 +56,9 @@ asked_of turns cursor name =
       | Err code ↦ Done (Err (At code 0))
     ])
 
--- How far the use of a name goes in these scopes: for certain into those inside the one that decides
--- its first part, and into that one where it doesn't declare it itself; and then further outward,
--- where none was asked. With a leading `::` it goes into none.
+-- How far the use of a name goes in these scopes: for certain into those inside the one that
+-- decides its first part, and into that one where it doesn't declare it itself; and then further
+-- outward, where none was asked. With a leading `::` it goes into none.
 abbrev pub reach_at : ScopedName → List Scope → ℕ → Entity → Reach
 reach_at name cursor inside first =
     let decider = option_to_list (slice_get cursor inside) in
@@ -69,7 +69,7 @@ reach_at name cursor inside first =
     else record { certain = certain; further = further }
 
 -- the uses of a folded name in these scopes that go so far, where a unit's earlier tokens add this:
--- one that goes further comes to nothing where a scope on the way to it, or it itself, declares that
+-- one that goes further comes to nothing where it or a scope on the way to it declares the name
 abbrev pub uses_at : List ℕ → Reach → List Scope → List Addition → List Addition
 uses_at n r scopes own =
     let further = take r.further (drop r.certain scopes) in
@@ -79,8 +79,8 @@ uses_at n r scopes own =
       unless = before ++ s.path ∷ [];
     })) [] (undeclared (λ k. over own k None) n further)
 
--- what a `typeid` or a `typeprefix` says of what its name denotes, which ends at this token: nothing
--- is added by a text that may not stand there
+-- what a `typeid` or a `typeprefix` says of what its name denotes, which ends at this token:
+-- nothing is added by a text that may not stand there
 abbrev pub remark_on : TextPurpose → ℕ → List ℕ → Entity → Lookup Said
 remark_on text.Context at t e = Done (refused_for [])
 remark_on text.Id at t e =

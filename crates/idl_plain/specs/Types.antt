@@ -77,8 +77,8 @@ of_basics basic.LongDouble = (Word word.Long ∷ Word word.Double ∷ [], Unvalu
 of_basics basic.Any = (Word word.Any ∷ [], Unvalued unvalued.Any)
 of_basics basic.Object = (Word word.Object ∷ [], Unvalued unvalued.Object)
 
--- a type that is no name, where the last bound in it is this; a sequence is one of the type that was
--- written last
+-- a type that is no name, where the last bound in it is this; a sequence is one of the type that
+-- was written last
 abbrev pub type_in : Shape → Option ℕ → Option DataType → Option DataType
 type_in (shape.Basic b) bound before = Some (plain_type (of_basics b).1)
 type_in (shape.Text is_wide is_bounded) bound before =

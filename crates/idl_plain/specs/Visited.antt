@@ -1,18 +1,19 @@
 -- What comes of the sites of a unit over the answers before it. Nothing is asked on the way.
-use Rattle.std.specs.Prelude.{◌&&◌, ◌+◌, ◌++◌, [], ◌∷◌, Err, None, Ok, Option, Result, Some, drop, fold, is_some, not, ℕ, if◌then◌else◌}
+use Rattle.std.specs.Prelude.{◌&&◌, ◌+◌, ◌++◌, [], ◌∷◌, Err, None, Ok, Option, Some, drop, fold, is_some, not, take, true, ℕ, if◌then◌else◌}
 use Rattle.std.specs.List.{list_any}
 use Rattle.std.specs.Option.{option_to_list}
 use Rattle.idl_check.specs.ids.About.{unnamed_faults}
 use Rattle.idl_check.specs.ids.Remarks.{is_bad_text, purpose_of, remark}
+use Rattle.idl_check.specs.tables.Codes.{faults_by}
 use Rattle.idl_check.specs.tables.Declaring.{entity_of}
-use Rattle.idl_check.specs.tables.Rules.{has_id, is_default_again, is_useless_default, may_be_ahead}
+use Rattle.idl_check.specs.tables.Rules.{has_id, is_useless_default, may_be_ahead}
 use Rattle.idl_check.specs.tables.Using.{name_code}
-use Rattle.idl_check.specs.told.Bodies.{array_of, begun_body, told_innermost, with_array_type, with_body_label, with_innermost, with_text}
-use Rattle.idl_check.specs.told.Labels.{no_labels, with_default, with_label}
+use Rattle.idl_check.specs.told.Bodies.{Body, array_of, told_innermost, with_array_type, with_body_label, with_innermost, with_text}
+use Rattle.idl_check.specs.told.Labels.{no_labels, with_label}
 use Rattle.idl_check.specs.told.Types.{looked_through, target_in, written_as}
-use Rattle.idl_check.specs.told.Values.{begun_at, number_of, with_operand}
+use Rattle.idl_check.specs.told.Values.{evaluation_for, number_of, with_operand}
 use Rattle.idl_check.specs.walk.AllFaults.{evaluation_faults}
-use Rattle.idl_check.specs.walk.Walk.{Visit, Walk, declared_visit, evaluation_at, faulty_if, passed, quiet, turns_at, used_visit, with_labels, with_scope}
+use Rattle.idl_check.specs.walk.Walk.{Visit, Walk, faulty_if, label_target, quiet, turns_at, with_labels, with_scope}
 use Rattle.idl_check.specs.declared.tables.standing.Standing.{Standing}
 use Rattle.idl_entity.specs.DataType.{plain_type}
 use Rattle.idl_entity.specs.Entity.{is_operation}
@@ -30,7 +31,7 @@ use Rattle.idl_env.specs.declared.keys.key.Key.{Key}
 use Rattle.idl_env.specs.declared.keys.key.Key.TheVariants.{Introduced, Prefix}
 use Rattle.idl_fault.specs.declared.code.Code.TheVariants as code
 use Rattle.idl_lex.specs.kinds.Keywords.{folded}
-use Rattle.idl_memo.specs.Query.{Done, and_then, outcome}
+use Rattle.idl_memo.specs.Query.{outcome}
 use Rattle.idl_parts.specs.Item.{Item, item_length}
 use Rattle.idl_parts.specs.Part.{Part as item}
 use Rattle.idl_parts.specs.declared.part.Purpose.{Purpose}
@@ -38,13 +39,13 @@ use Rattle.idl_parts.specs.declared.part.Purpose.TheVariants as purpose
 use Rattle.idl_parts.specs.declared.part.TextPurpose.{TextPurpose}
 use Rattle.idl_parts.specs.declared.part.Use.{Use}
 use Rattle.idl_parts.specs.declared.part.Use.TheVariants.{AsDiscriminator, AsOperand}
+use Rattle.idl_plain.specs.Declared.{declared_at}
+use Rattle.idl_plain.specs.Used.{introduced, rules_of_used, walk_behind}
 use Rattle.idl_scope.specs.Known.{known}
 use Rattle.idl_scope.specs.Lookup.{denoted, is_nothing, reached}
-use Rattle.idl_scope.specs.Question.{Lookup, under}
 use Rattle.idl_scope.specs.Meaning.{bases_at, own_at}
 use Rattle.idl_scope.specs.declared.fault.NameFault.{NameFault}
 use Rattle.idl_scope.specs.declared.fault.NameFault.TheVariants.{At, Memory}
-use Rattle.idl_scope.specs.declared.found.Found.{Found}
 use Rattle.idl_tree.specs.NameParts.{last_at, part_at}
 use Rattle.idl_tree.specs.declared.name.ScopedName.{ScopedName}
 use Rattle.idl_unit.specs.TokenRules.{fault_at, first}
@@ -114,23 +115,6 @@ array_left w =
       }
     ]
 
--- behind a name that denotes this, if it does, and of which the text behind it says something
-abbrev pub spoken_by : TextPurpose → ScopedName → Walk → Result Found NameFault → Lookup Visit
-spoken_by purpose name w r =
-    let behind = record w { at = last_at w.at name + 1 } in
-    elim r [
-      | Err fault ↦ Done (record { faults = unnamed_faults w.at name fault; after = behind })
-      | Ok found ↦
-          let said = remark purpose (last_at w.at name) w.text found.entity in
-          and_then (under w.own said) (λ s. Done (record {
-            faults = s.faults;
-            after = record behind {
-              own = fold with_addition w.own s.additions;
-              found = w.found ++ found.entity.path ∷ [];
-            };
-          }))
-    ]
-
 -- what stands in a scope under the name of what is declared there, over these answers
 abbrev pub standing_at : ℕ → (Key → Option Answer) → Scope → Entity → Standing
 standing_at turns answers s e =
@@ -161,8 +145,15 @@ module _ (turns : ℕ) (answers : Key → Option Answer) where
   abbrev pub named_at : Use → ScopedName → Walk → Visit
   named_at way name w = elim (outcome (denoted (turns_at turns w) w.cursor name) (seen_at w)) [
     | Err fault ↦ unfound_at w way name fault
-    | Ok found ↦ used_visit w way name found
-        (outcome (looked_through (turns_at turns w) way found.entity) (seen_at w))
+    | Ok found ↦
+        let e = found.entity in
+        let behind = outcome (looked_through (turns_at turns w) way e) (seen_at w) in
+        let rules = rules_of_used way w.bases e behind in
+        let table = if rules.0 then rules.1 else (true, code.WrongKind) ∷ [] in
+        record {
+          faults = faults_by (last_at w.at name) table;
+          after = walk_behind way e behind (introduced w name found);
+        }
   ]
 
   -- a name of which a text says something: it introduces nothing
@@ -185,9 +176,9 @@ module _ (turns : ℕ) (answers : Key → Option Answer) where
   -- a site: all its faults, and how the walk goes on
   abbrev pub visited : Item → Walk → Visit
   visited (item.Declares way name) w = elim (first w.cursor) [
-    | None ↦ quiet (passed 1 w)
+    | None ↦ quiet (record w { at = w.at + 1 })
     | Some s ↦ let e = entity_of w.written way name s.path in
-        declared_visit w way s e (standing_at (turns_at turns w) (seen_at w) s e)
+        declared_at w way s e (standing_at (turns_at turns w) (seen_at w) s e)
   ]
   visited (item.Uses way name) w = elim (purpose_of way) [
     | None ↦ named_at way name w
@@ -195,12 +186,16 @@ module _ (turns : ℕ) (answers : Key → Option Answer) where
   ]
   visited (item.ScopeBegins way name) w = quiet (record w {
     cursor = with_scope way name w.cursor;
-    bodies = begun_body w.last w.written.data_type ∷ w.bodies;
+    bodies =
+        record { entity = w.last; data_type = w.written.data_type; members = []; labels = [] }
+        ∷ w.bodies;
   })
   visited item.ScopeEnds w = scope_left w
-  visited item.ValueBegins w = quiet (record w { values = begun_at w.at w.values })
+  visited item.ValueBegins w =
+      quiet (record w { values = record w.values { begin = Some w.at; operands = [] } })
   visited (item.ValueEnds way e) w =
-      let v = evaluation_at w way e in
+      let label = label_target w.unions in
+      let v = evaluation_for way w.written.constants label w.values.operands e in
       record { faults = evaluation_faults w way v; after = valued w way v }
   visited (item.TypeEnds shape) w =
       let t = written_as shape w.values.bound w.written.data_type in
@@ -216,15 +211,16 @@ module _ (turns : ℕ) (answers : Key → Option Answer) where
         unions = no_labels (Some t) 0 ∷ w.unions;
       })
   visited item.Default w =
-      faulty_if (is_default_again w.unions) code.RepeatedLabel w
+      faulty_if (list_any (λ l. l.has_default) (take 1 w.unions)) code.RepeatedLabel w
       (record w {
-        unions = with_labels with_default w.unions;
+        unions = with_labels (λ l. record l { has_default = true }) w.unions;
         bodies = with_body_label None w.bodies;
       })
   visited item.GivesBack w = record { faults = fault_at w.at code.BadOneway ∷ []; after = w }
-  visited (item.Plain n) w = quiet (passed n w)
+  visited (item.Plain n) w = quiet (record w { at = w.at + n })
   visited (item.Says purpose text) w =
       faulty_if (is_bad_text purpose (joined text)) code.BadIdText w
-      (record (passed (item_length (item.Says purpose text)) w) {
+      (record w {
+        at = w.at + item_length (item.Says purpose text);
         clauses = with_text purpose text w.clauses;
       })

@@ -1,6 +1,6 @@
 //! The laws of what is one thing with a value, or of a choice, and another without it.
 
-ghost use Rattle.std.specs.Prelude.{◌≡◌, ◌&&◌, ◌++◌, ◌∷◌, [], Bool, List, None, Option, codes, drop, false, filter, slice_get, take, ℕ, if◌then◌else◌};
+ghost use Rattle.std.specs.Prelude.{◌≡◌, ◌&&◌, ◌∷◌, [], Bool, List, None, Option, codes, drop, false, filter, slice_get, take, ℕ, if◌then◌else◌};
 ghost use Rattle.std.specs.List.{list_any};
 ghost use Rattle.std.specs.Option.{option_and_then, option_map, option_map_or, option_to_list, unwrap_or};
 ghost use Rattle.idl_check.specs.tables.Rules.{is_there};
@@ -16,9 +16,6 @@ ghost use Rattle.idl_entity.specs.declared.entity.Entity.{Entity};
 ghost use Rattle.idl_entity.specs.declared.identity.Prefix.{Prefix};
 ghost use Rattle.idl_entity.specs.declared.kind.Kind.TheVariants.{Attribute};
 ghost use Rattle.idl_env.specs.Facts.{operations_of};
-ghost use Rattle.idl_fault.specs.Diagnostic.{diagnostic_row, head_row};
-ghost use Rattle.idl_fault.specs.declared.code.Code.{Code};
-ghost use Rattle.idl_fault.specs.declared.place.Place.{Place};
 ghost use Rattle.idl_lex.specs.declared.tokens.token.PlacedToken.{PlacedToken};
 ghost use Rattle.idl_macro.specs.Condition.{taken_by, truth};
 ghost use Rattle.idl_macro.specs.Directives.{begins_parameters, opens_parameters};
@@ -59,9 +56,6 @@ pub fn optional()
     ensures prefixes { (text : Option (List ℕ)) (p : Prefix) → prefix_told text p
         ≡ option_map_or (λ t. record { text = t; scope = [] }) text p }
     ensures taken { (name : Option (List ℕ × ℕ)) → taken_by name ≡ option_map_or (λ n. n.1) name 0 }
-    ensures rows { (place : Place) (code : Code) (text : Option (List ℕ))
-        → diagnostic_row place code text
-        ≡ head_row place code ++ option_map_or (λ t. codes " " ++ t) text [] }
 {}
 
 /// Each of these is one thing or another, as is chosen.

@@ -4,17 +4,13 @@ ghost use Rattle.std.specs.Prelude.{◌≡◌, List, Option, fold, ℕ};
 ghost use Rattle.idl_check.specs.walk.AllFaults.{whole_visit};
 ghost use Rattle.idl_check.specs.walk.Judging.{walked};
 ghost use Rattle.idl_check.specs.walk.Verdict.{verdict};
-ghost use Rattle.idl_check.specs.walk.Walk.{Walk, ended_array, scope_visit, spoken_of, turns_at, unfound_visit};
+ghost use Rattle.idl_check.specs.walk.Walk.{Walk, ended_array, scope_visit, unfound_visit};
 ghost use Rattle.idl_env.specs.declared.answering.answer.Answer.{Answer};
 ghost use Rattle.idl_env.specs.declared.keys.key.Key.{Key};
-ghost use Rattle.idl_memo.specs.Query.{and_then};
 ghost use Rattle.idl_parts.specs.Item.{Item};
-ghost use Rattle.idl_parts.specs.declared.part.TextPurpose.{TextPurpose};
 ghost use Rattle.idl_parts.specs.declared.part.Use.{Use};
 ghost use Rattle.idl_plain.specs.Verdict.{asked_verdict};
-ghost use Rattle.idl_plain.specs.Visited.{array_left, scope_left, spoken_by, unfound_at, visited};
-ghost use Rattle.idl_scope.specs.Lookup.{denoted};
-ghost use Rattle.idl_scope.specs.Question.{under};
+ghost use Rattle.idl_plain.specs.Visited.{array_left, scope_left, unfound_at, visited};
 ghost use Rattle.idl_scope.specs.declared.fault.NameFault.{NameFault};
 ghost use Rattle.idl_tree.specs.declared.name.ScopedName.{ScopedName};
 ghost use Rattle.idl_unit.specs.declared.unit.UnitText.{UnitText};
@@ -28,16 +24,12 @@ pub fn sites()
         ≡ fold (λ w site. (visited turns answers site w).after) w sites }
 {}
 
-/// How a walk goes on behind a scope, an array, and a name that denotes nothing or of which something is said.
+/// How a walk goes on behind a scope, an array, and a name that denotes nothing.
 pub fn behind()
     ensures scopes { (w : Walk) → scope_visit w ≡ scope_left w }
     ensures arrays { (w : Walk) → ended_array w ≡ array_left w }
     ensures unfound { (w : Walk) (way : Use) (name : ScopedName) (fault : NameFault)
         → unfound_visit w way name fault ≡ unfound_at w way name fault }
-    ensures spoken { (turns : ℕ) (purpose : TextPurpose) (name : ScopedName) (w : Walk)
-        → spoken_of turns purpose name w
-        ≡ and_then (under w.own (denoted (turns_at turns w) w.cursor name))
-        (spoken_by purpose name w) }
 {}
 
 /// A unit is told, and asks, by the first of the steps in which a fault is; and else by all that its sites come to.

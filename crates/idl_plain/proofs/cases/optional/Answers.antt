@@ -1,4 +1,4 @@
-use Rattle.idl_plain.proofs.CaseLaws.{array-told, bases-told, operations-told, path-told, prefix-told, raised-told, row-told, switch-told, taken-told, target-told, there-told, value-told}
+use Rattle.idl_plain.proofs.CaseLaws.{array-told, bases-told, operations-told, path-told, prefix-told, raised-told, switch-told, taken-told, target-told, there-told, value-told}
 use Rattle.idl_plain.proofs.cases.optional.Goals as goal
 
 pub returns-clause-paths : goal.returns-clause-paths
@@ -33,6 +33,3 @@ returns-clause-prefixes c = prefix-told
 
 pub returns-clause-taken : goal.returns-clause-taken
 returns-clause-taken c = taken-told
-
-pub returns-clause-rows : goal.returns-clause-rows
-returns-clause-rows c = row-told

@@ -1,4 +1,4 @@
-use Rattle.idl_plain.proofs.VisitLaws.{array-told, scope-told, spoken-told, unfound-at}
+use Rattle.idl_plain.proofs.VisitLaws.{array-told, scope-told, unfound-at}
 use Rattle.idl_plain.proofs.visits.behind.Goals as goal
 
 pub returns-clause-scopes : goal.returns-clause-scopes
@@ -9,6 +9,3 @@ returns-clause-arrays c = array-told
 
 pub returns-clause-unfound : goal.returns-clause-unfound
 returns-clause-unfound c = unfound-at
-
-pub returns-clause-spoken : goal.returns-clause-spoken
-returns-clause-spoken c = spoken-told
