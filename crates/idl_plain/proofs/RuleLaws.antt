@@ -39,7 +39,7 @@ pub one : (b : Bool) → b ≡ b || false
 one true = refl
 one false = refl
 
-none : (b : Bool) → false ≡ b && false
+pub none : (b : Bool) → false ≡ b && false
 none true = refl
 none false = refl
 

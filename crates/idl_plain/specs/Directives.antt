@@ -13,7 +13,7 @@ use Rattle.idl_fault.specs.declared.code.Code.TheVariants.{BadCondition, Malform
 use Rattle.idl_fault.specs.declared.file_name.FileName.{FileName}
 use Rattle.idl_fault.specs.declared.place.Place.{Place}
 use Rattle.idl_lex.specs.kinds.Word.{is_word}
-use Rattle.idl_lex.specs.tokens.Tokens.{tokens_in}
+use Rattle.idl_lex.specs.tokens.Tokens.{Token, tokens_in}
 use Rattle.idl_lex.specs.declared.tokens.token.PlacedToken.{PlacedToken}
 use Rattle.idl_macro.specs.Condition.{defined_read, value}
 use Rattle.idl_macro.specs.Directives.{definition_in, saying}
@@ -52,16 +52,16 @@ defined_at place word definitions operands = elim (definition_in operands) [
 
 -- the operand of `include`: its first token, or what that is replaced by
 abbrev pub operand_at : Place → Definitions → List PlacedToken → Expanding (Option Operand)
-operand_at place definitions tokens = elim (slice_get tokens 0) [
-  | None ↦ Done None
-  | Some t ↦
-      if is_some (operand_in t.token) then Tell (Counted place) (Done (operand_in t.token))
-      else if is_word t.token then and_then (macro_of definitions t.token) (λ body.
-      if is_some body
-      then and_then (operand place definitions (t.token ∷ [])) (λ given. Done (operand_given given))
-      else Done None)
-      else Done None
-]
+operand_at place definitions tokens =
+    let replaced : Token → Expanding (Option Operand) = λ t.
+        and_then (operand place definitions (t ∷ [])) (λ given. Done (operand_given given)) in
+    elim (slice_get tokens 0) [
+      | None ↦ Done None
+      | Some t ↦
+          if is_some (operand_in t.token) then Tell (Counted place) (Done (operand_in t.token))
+          else if is_word t.token then and_then (macro_of definitions t.token)
+          (λ body. if is_some body then replaced t.token else Done None) else Done None
+    ]
 
 -- the file that it finds: beside the including one, where it stands in quotes, or along the search
 -- list; one with a leading `/` by that name alone
