@@ -146,17 +146,17 @@ module _ (e : Entity) where
   kind-told kind.Attribute = λ i. (
     codes "attribute",
     Says (flag-told e.is_readonly (codes " readonly ") i)
-    ∷ (type-told e.data_type i
-    ++ Says (codes " get(") ∷ (references (shown e).raised
-    ++ Says (codes ") set(") ∷ (references (shown e).raised_by_set ++ says (codes ")")))),
+        ∷ (type-told e.data_type i
+        ++ Says (codes " get(") ∷ (references (shown e).raised
+        ++ Says (codes ") set(") ∷ (references (shown e).raised_by_set ++ says (codes ")")))),
   )
   kind-told kind.Operation = λ i. (
     codes "operation",
     Says (flag-told e.is_oneway (codes " oneway ") i)
-    ∷ (type-told e.data_type i
-    ++ Says (codes " (") ∷ (commas (λ (m : Member). parameter-told m i) (shown e).members
-    ++ Says (codes ") raises(") ∷ (references (shown e).raised
-    ++ Says (codes ") context(") ∷ Says (with_commas (λ (text : List ℕ). value_word (Text text)) (shown e).contexts) ∷ says (codes ")")))),
+        ∷ (type-told e.data_type i
+        ++ Says (codes " (") ∷ (commas (λ (m : Member). parameter-told m i) (shown e).members
+        ++ Says (codes ") raises(") ∷ (references (shown e).raised
+        ++ Says (codes ") context(") ∷ Says (with_commas (λ (text : List ℕ). value_word (Text text)) (shown e).contexts) ∷ says (codes ")")))),
   )
   kind-told k = refl
 

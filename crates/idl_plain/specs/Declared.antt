@@ -112,7 +112,7 @@ declared_in standing e own =
 abbrev pub declared_at : Walk → Declaration → Scope → Entity → Standing → Visit
 declared_at w way s e standing =
     let is_begun : Entity → Bool = λ e. stage_eq e.stage Begun
-        && (kind_eq e.kind kind.Interface || kind_eq e.kind kind.Constant) in
+    && (kind_eq e.kind kind.Interface || kind_eq e.kind kind.Constant) in
     let as_type : Written = record w.written {
       data_type = Some (plain_type (Named e.path));
       enumeration = e.path;

@@ -54,7 +54,7 @@ defined_at place word definitions operands = elim (definition_in operands) [
 abbrev pub operand_at : Place → Definitions → List PlacedToken → Expanding (Option Operand)
 operand_at place definitions tokens =
     let replaced : Token → Expanding (Option Operand) = λ t.
-        and_then (operand place definitions (t ∷ [])) (λ given. Done (operand_given given)) in
+    and_then (operand place definitions (t ∷ [])) (λ given. Done (operand_given given)) in
     elim (slice_get tokens 0) [
       | None ↦ Done None
       | Some t ↦
