@@ -8,19 +8,22 @@ use Rattle.idl_check.specs.told.Bodies.{Clauses, array_type, raises, raising}
 use Rattle.idl_check.specs.told.Types.{may_switch, path_in, target_in}
 use Rattle.idl_check.specs.told.Values.{evaluation_in}
 use Rattle.idl_entity.specs.DataType.{constants_in, named_in, with_arrays}
-use Rattle.idl_entity.specs.Identity.{prefix_told}
+use Rattle.idl_entity.specs.Identity.{prefix_told, told}
 use Rattle.idl_entity.specs.Kind.{has_bases, kind_eq}
 use Rattle.idl_entity.specs.Path.{name_of}
 use Rattle.idl_entity.specs.declared.data_type.DataType.{DataType}
 use Rattle.idl_entity.specs.declared.entity.Entity.{Entity}
+use Rattle.idl_entity.specs.declared.identity.Identity.{Identity}
 use Rattle.idl_entity.specs.declared.identity.Prefix.{Prefix}
 use Rattle.idl_entity.specs.declared.kind.Kind.TheVariants.{Attribute}
 use Rattle.idl_env.specs.Facts.{operations_of}
 use Rattle.idl_lex.specs.declared.tokens.token.PlacedToken.{PlacedToken}
 use Rattle.idl_macro.specs.Condition.{taken_by, truth}
 use Rattle.idl_macro.specs.Directives.{begins_parameters, opens_parameters}
+use Rattle.idl_memo.specs.Query.{Done, and_then}
 use Rattle.idl_parts.specs.Part.{GivesBack}
 use Rattle.idl_parts.specs.UnitParts.{given_back}
+use Rattle.idl_scope.specs.Known.{id_of, known, told_of}
 use Rattle.idl_scope.specs.Meaning.{bases_of}
 use Rattle.idl_source.specs.names.Path.{slashed, text_down}
 use Rattle.idl_tree.specs.Interface.{spell_local}
@@ -79,6 +82,13 @@ array-told lengths (Some t) = refl
 pub prefix-told : (text : Option (List ℕ)) (p : Prefix) → prefix_told text p ≡ option_map_or (λ t. record { text = t; scope = [] }) text p
 prefix-told None p = refl
 prefix-told (Some t) p = refl
+
+told-by : (path : List (List ℕ)) (d : Option Identity) → told_of path d ≡ option_map_or (told path) d []
+told-by path None = refl
+told-by path (Some d) = refl
+
+pub id-told : (path : List (List ℕ)) → id_of path ≡ and_then (known path) (λ d. Done (option_map_or (told path) d []))
+id-told path = λ i. and_then (known path) (λ d. Done (told-by path d i))
 
 pub taken-told : (name : Option (List ℕ × ℕ)) → taken_by name ≡ option_map_or (λ n. n.1) name 0
 taken-told None = refl

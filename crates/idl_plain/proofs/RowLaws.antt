@@ -14,12 +14,17 @@ use Rattle.idl_entity.specs.declared.kind.Kind.{Kind}
 use Rattle.idl_entity.specs.declared.kind.Kind.TheVariants as kind
 use Rattle.idl_entity.specs.declared.signature.Member.{Member}
 use Rattle.idl_entity.specs.declared.unvalued.Unvalued.TheVariants as unvalued
+use Rattle.idl_env.specs.Facts.{entity_in, entity_key}
+use Rattle.idl_memo.specs.Query.{Ask, Done, and_then}
 use Rattle.idl_plain.proofs.OutwardLaws.{layers-told}
 use Rattle.idl_plain.proofs.TableLaws.{integers-told}
 use Rattle.idl_plain.specs.Rows.{code_row, element_row, entries_row, kind_row, layer_row, member_row, parameter_row, references, type_row}
-use Rattle.idl_repo.specs.Pieces.{IdOf, Pieces, Says, commas, says, with_commas}
+use Rattle.idl_repo.specs.Entry.{closing_fault, entry, entry_in}
+use Rattle.idl_repo.specs.Pieces.{IdOf, Pieces, Says, commas, says, with_commas, written}
 use Rattle.idl_repo.specs.Row.{base_pieces, behind_id, direction_word, flag, kind_word, parameter_pieces, path_text, row_pieces, value_pieces}
 use Rattle.idl_repo.specs.TypeCode.{default_at, default_word, element_pieces, entries_of, interface_head, label_word, layer_end, layer_word, layers_begin, listed_value, shown, type_pieces, typed_pieces}
+use Rattle.idl_repo.specs.declared.entry.Entry.{Entry}
+use Rattle.idl_scope.specs.Lookup.{Lookup}
 use Rattle.idl_value.specs.Spelled.{value_word}
 use Rattle.idl_value.specs.declared.constant_type.ConstantType.TheVariants as target
 use Rattle.idl_value.specs.declared.value.Value.{Value}
@@ -83,8 +88,8 @@ default-told labels =
     default-word (default_at 0 labels)
     ∙ ap default_row (default-from 0 labels ∙ sym (position_from-zero is_none labels))
 
-entries-told : (members : List Member) → entries_of members ≡ entries_row members
-entries-told members = λ i.
+labels-told : (members : List Member) → entries_of members ≡ entries_row members
+labels-told members = λ i.
     Says (codes ",") ∷ Says (default-told (flat_map (λ (m : Member). m.labels) members) i)
     ∷ flat_map (λ (m : Member). flat_map (λ (label : Option Value). Says (codes ",") ∷ Says (label_word label) ∷ Says (codes ":") ∷ member-told m i) m.labels) members
 
@@ -130,7 +135,7 @@ module _ (e : Entity) where
   )
   kind-told kind.Union = λ i. (
     codes "union",
-    code_row (codes " tk_union(") e ((Says (codes ",") ∷ type-told e.data_type i) ++ entries-told (shown e).members i),
+    code_row (codes " tk_union(") e ((Says (codes ",") ∷ type-told e.data_type i) ++ labels-told (shown e).members i),
   )
   kind-told kind.Exception = λ i. (
     codes "exception",
@@ -163,3 +168,19 @@ module _ (e : Entity) where
   pub rows-told : row_pieces e ≡ (let row = kind_row e (shown e) e.kind in
       Says row.0 ∷ Says (codes " ") ∷ Says (path_text e.path) ∷ Says (codes " ") ∷ IdOf e.path ∷ row.1)
   rows-told = λ i. Says (kind-told e.kind i).0 ∷ Says (codes " ") ∷ Says (path_text e.path) ∷ Says (codes " ") ∷ IdOf e.path ∷ (kind-told e.kind i).1
+
+-- ---- entries
+
+abbrev entry_by : Option Entity → Lookup Entry
+entry_by o = elim o [
+  | None ↦ Done (record { row = None; fault = None })
+  | Some e ↦ and_then (written [] (row_pieces e)) (λ text. Done (record { row = Some text; fault = closing_fault e }))
+]
+
+entry-told : (o : Option Entity) → entry_in o ≡ entry_by o
+entry-told None = refl
+entry-told (Some e) = refl
+
+pub entries-told : (path : List (List ℕ)) → entry path ≡ Ask (entity_key path) (λ there. entry_by (entity_in there))
+unfolding entry
+entries-told path = λ i. Ask (entity_key path) (λ there. entry-told (entity_in there) i)

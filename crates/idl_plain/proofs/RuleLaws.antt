@@ -9,6 +9,7 @@ use Rattle.idl_check.specs.tables.Rules.{depth, is_interface, is_useless_default
 use Rattle.idl_check.specs.told.Bodies.{Body, Clauses, told_body, told_innermost, with_innermost}
 use Rattle.idl_check.specs.told.Labels.{Labels, is_idle}
 use Rattle.idl_check.specs.told.Types.{written_as}
+use Rattle.idl_check.specs.walk.AllFaults.{or_else}
 use Rattle.idl_check.specs.walk.Placing.{is_module, opened_kind, opening_faults}
 use Rattle.idl_check.specs.walk.Walk.{label_target, with_labels}
 use Rattle.idl_entity.specs.DataType.{plain_type}
@@ -18,7 +19,9 @@ use Rattle.idl_entity.specs.declared.data_type.Element.{Element}
 use Rattle.idl_entity.specs.declared.kind.Kind.{Kind}
 use Rattle.idl_entity.specs.declared.kind.Kind.TheVariants.{Interface, Module}
 use Rattle.idl_env.specs.Facts.{more_inside}
+use Rattle.idl_env.specs.declared.answering.answer.Answer.{Answer}
 use Rattle.idl_env.specs.declared.answering.answer.Scope.{Scope}
+use Rattle.idl_env.specs.declared.keys.key.Key.{Key}
 use Rattle.idl_fault.specs.declared.code.Code.TheVariants.{NestedTooDeep}
 use Rattle.idl_lex.specs.tokens.Tokens.{Token}
 use Rattle.idl_parts.specs.declared.part.Shape.{Shape}
@@ -79,6 +82,10 @@ pub useless-told : (unions : List Labels) → is_useless_default unions
 useless-told unions = λ i. list_any (λ (l : Labels). idle-told l i) (take 1 unions)
 
 -- ---- faults
+
+pub steps-told : (turns : ℕ) (answers : Key → Option Answer) (earlier later : List Fault) → or_else turns answers earlier later ≡ elim earlier [ [] ↦ later | f ∷ more ↦ earlier ]
+steps-told turns answers [] later = refl
+steps-told turns answers (f ∷ more) later = refl
 
 module _ (n : ℕ) where
   pub faults-told : (table : Table) → faults_by n table ≡ flat_map (λ row. if row.0 then fault_at n row.1 ∷ [] else []) table

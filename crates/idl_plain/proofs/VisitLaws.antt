@@ -5,7 +5,6 @@ use Rattle.std.specs.Prelude.{if◌then◌else◌}
 use Rattle.idl_check.specs.ids.About.{Said, unnamed_faults}
 use Rattle.idl_check.specs.ids.Identifying.{id_before, ids_of}
 use Rattle.idl_check.specs.ids.Remarks.{purpose_of, remark}
-use Rattle.idl_check.specs.tables.Codes.{faults_by}
 use Rattle.idl_check.specs.tables.Declaring.{entity_of, inherited, is_any, standing}
 use Rattle.idl_check.specs.tables.Rules.{has_id, is_useless_default, may_be_ahead}
 use Rattle.idl_check.specs.tables.Using.{name_code, values_after}
@@ -43,9 +42,9 @@ use Rattle.idl_parts.specs.declared.part.TextPurpose.{TextPurpose}
 use Rattle.idl_parts.specs.declared.part.Use.{Use}
 use Rattle.idl_parts.specs.declared.part.Use.TheVariants.{AsDiscriminator, AsOperand}
 use Rattle.idl_plain.proofs.DeclaredLaws.{visit-told}
-use Rattle.idl_plain.proofs.TableLaws.{uses-left, uses-told}
+use Rattle.idl_plain.proofs.TableLaws.{uses-told}
 use Rattle.idl_plain.specs.Declared.{declared_at}
-use Rattle.idl_plain.specs.Used.{introduced, rules_of_used, walk_behind}
+use Rattle.idl_plain.specs.Used.{used_at}
 use Rattle.idl_plain.specs.Visited.{array_left, named_at, scope_left, seen_at, spoken_at, standing_at, unfound, unfound_at, valued, visited}
 use Rattle.idl_scope.proofs.FactsLaws.{outcome-under}
 use Rattle.idl_scope.specs.Known.{known}
@@ -215,31 +214,17 @@ module _ (turns : ℕ) (answers : Key → Option Answer) where
     abbrev of_result : Result Found NameFault → Lookup Visit
     of_result r = by_result r of_found (λ fault. Done (unfound_visit w way name fault))
 
-    abbrev used_as : Found → Entity → Visit
-    used_as found behind =
-        let rules = rules_of_used way w.bases found.entity behind in
-        record {
-          faults = faults_by (last_at w.at name) (if rules.0 then rules.1 else (true, code.WrongKind) ∷ []);
-          after = walk_behind way found.entity behind (introduced w name found);
-        }
-
-    used-as : (found : Found) (behind : Entity) → used_visit w way name found behind ≡ used_as found behind
-    used-as found behind = λ i. record {
-      faults = faults_by (last_at w.at name) (uses-told way w.bases found.entity behind i);
-      after = uses-left way w name found behind i;
-    }
-
     abbrev named_by : Result Found NameFault → Visit
     named_by r = elim r [
       | Err fault ↦ unfound_at w way name fault
-      | Ok found ↦ used_as found (outcome (looked_through (turns_at turns w) way found.entity) (seen w))
+      | Ok found ↦ used_at w way name found (outcome (looked_through (turns_at turns w) way found.entity) (seen w))
     ]
 
     result-is : (r : Result Found NameFault) → outcome (of_result r) answers ≡ named_by r
     result-is (Ok found) =
         outcome-and_then (under w.own (looked_through (turns_at turns w) way found.entity)) (λ behind. Done (used_visit w way name found behind)) answers
         ∙ ap (λ (behind : Entity). used_visit w way name found behind) (outcome-under w.own answers (looked_through (turns_at turns w) way found.entity))
-        ∙ used-as found (outcome (looked_through (turns_at turns w) way found.entity) (seen w))
+        ∙ uses-told w way name found (outcome (looked_through (turns_at turns w) way found.entity) (seen w))
     result-is (Err fault) = unfound-at w way name fault
 
     used-is : outcome (used turns way name w) answers ≡ named_at turns answers way name w

@@ -1,13 +1,13 @@
 -- Used names: a line for each use, with what the name may denote there, and what is wrong with it.
-use Rattle.std.specs.Prelude.{◌&&◌, ◌+◌, ◌++◌, Bool, true, [], ◌∷◌, None, Some, is_none, is_some, length, not}
+use Rattle.std.specs.Prelude.{◌&&◌, ◌+◌, ◌++◌, Bool, true, [], ◌∷◌, None, Some, is_none, is_some, length, not, if◌then◌else◌}
 use Rattle.std.specs.List.{list_any}
-use Rattle.idl_check.specs.tables.Codes.{Table}
+use Rattle.idl_check.specs.tables.Codes.{Table, faults_by}
 use Rattle.idl_check.specs.tables.Rules.{is_another, is_incomplete, is_type}
 use Rattle.idl_check.specs.tables.Using.{Bases, with_base, with_uses}
 use Rattle.idl_check.specs.told.Labels.{no_labels}
 use Rattle.idl_check.specs.told.Types.{constants_of, may_switch}
 use Rattle.idl_check.specs.told.Values.{with_operand}
-use Rattle.idl_check.specs.walk.Walk.{Walk}
+use Rattle.idl_check.specs.walk.Walk.{Visit, Walk}
 use Rattle.idl_entity.specs.DataType.{plain_type}
 use Rattle.idl_entity.specs.Kind.{kind_eq, stage_eq}
 use Rattle.idl_entity.specs.declared.data_type.Element.TheVariants.{Named}
@@ -92,3 +92,13 @@ walk_behind way.RaisedBySet e behind w = record w {
   clauses = record w.clauses { raised_by_set = w.clauses.raised_by_set ++ e.path ∷ [] };
 }
 walk_behind other e behind w = w
+
+-- what comes of the use of a name that denotes this, behind which that stands through typedefs
+abbrev pub used_at : Walk → Use → ScopedName → Found → Entity → Visit
+used_at w way name found behind =
+    let rules = rules_of_used way w.bases found.entity behind in
+    let table = if rules.0 then rules.1 else (true, code.WrongKind) ∷ [] in
+    record {
+      faults = faults_by (last_at w.at name) table;
+      after = walk_behind way found.entity behind (introduced w name found);
+    }

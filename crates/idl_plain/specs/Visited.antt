@@ -1,10 +1,9 @@
 -- What comes of the sites of a unit over the answers before it. Nothing is asked on the way.
-use Rattle.std.specs.Prelude.{◌&&◌, ◌+◌, ◌++◌, [], ◌∷◌, Err, None, Ok, Option, Some, drop, fold, is_some, not, take, true, ℕ, if◌then◌else◌}
+use Rattle.std.specs.Prelude.{◌&&◌, ◌+◌, ◌++◌, [], ◌∷◌, Err, None, Ok, Option, Some, drop, fold, is_some, not, take, ℕ, if◌then◌else◌}
 use Rattle.std.specs.List.{list_any}
 use Rattle.std.specs.Option.{option_to_list}
 use Rattle.idl_check.specs.ids.About.{unnamed_faults}
 use Rattle.idl_check.specs.ids.Remarks.{is_bad_text, purpose_of, remark}
-use Rattle.idl_check.specs.tables.Codes.{faults_by}
 use Rattle.idl_check.specs.tables.Declaring.{entity_of}
 use Rattle.idl_check.specs.tables.Rules.{has_id, is_useless_default, may_be_ahead}
 use Rattle.idl_check.specs.tables.Using.{name_code}
@@ -40,7 +39,7 @@ use Rattle.idl_parts.specs.declared.part.TextPurpose.{TextPurpose}
 use Rattle.idl_parts.specs.declared.part.Use.{Use}
 use Rattle.idl_parts.specs.declared.part.Use.TheVariants.{AsDiscriminator, AsOperand}
 use Rattle.idl_plain.specs.Declared.{declared_at}
-use Rattle.idl_plain.specs.Used.{introduced, rules_of_used, walk_behind}
+use Rattle.idl_plain.specs.Used.{used_at}
 use Rattle.idl_scope.specs.Known.{known}
 use Rattle.idl_scope.specs.Lookup.{denoted, is_nothing, reached}
 use Rattle.idl_scope.specs.Meaning.{bases_at, own_at}
@@ -145,15 +144,8 @@ module _ (turns : ℕ) (answers : Key → Option Answer) where
   abbrev pub named_at : Use → ScopedName → Walk → Visit
   named_at way name w = elim (outcome (denoted (turns_at turns w) w.cursor name) (seen_at w)) [
     | Err fault ↦ unfound_at w way name fault
-    | Ok found ↦
-        let e = found.entity in
-        let behind = outcome (looked_through (turns_at turns w) way e) (seen_at w) in
-        let rules = rules_of_used way w.bases e behind in
-        let table = if rules.0 then rules.1 else (true, code.WrongKind) ∷ [] in
-        record {
-          faults = faults_by (last_at w.at name) table;
-          after = walk_behind way e behind (introduced w name found);
-        }
+    | Ok found ↦ used_at w way name found
+        (outcome (looked_through (turns_at turns w) way found.entity) (seen_at w))
   ]
 
   -- a name of which a text says something: it introduces nothing

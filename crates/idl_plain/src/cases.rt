@@ -8,7 +8,7 @@ ghost use Rattle.idl_check.specs.told.Bodies.{Clauses, array_type, raises, raisi
 ghost use Rattle.idl_check.specs.told.Types.{may_switch, path_in, target_in};
 ghost use Rattle.idl_check.specs.told.Values.{evaluation_in};
 ghost use Rattle.idl_entity.specs.DataType.{constants_in, named_in, with_arrays};
-ghost use Rattle.idl_entity.specs.Identity.{prefix_told};
+ghost use Rattle.idl_entity.specs.Identity.{prefix_told, told};
 ghost use Rattle.idl_entity.specs.Kind.{has_bases, kind_eq};
 ghost use Rattle.idl_entity.specs.Path.{name_of};
 ghost use Rattle.idl_entity.specs.declared.data_type.DataType.{DataType};
@@ -19,8 +19,10 @@ ghost use Rattle.idl_env.specs.Facts.{operations_of};
 ghost use Rattle.idl_lex.specs.declared.tokens.token.PlacedToken.{PlacedToken};
 ghost use Rattle.idl_macro.specs.Condition.{taken_by, truth};
 ghost use Rattle.idl_macro.specs.Directives.{begins_parameters, opens_parameters};
+ghost use Rattle.idl_memo.specs.Query.{Done, and_then};
 ghost use Rattle.idl_parts.specs.Part.{GivesBack};
 ghost use Rattle.idl_parts.specs.UnitParts.{given_back};
+ghost use Rattle.idl_scope.specs.Known.{id_of, known};
 ghost use Rattle.idl_scope.specs.Meaning.{bases_of};
 ghost use Rattle.idl_source.specs.names.Path.{slashed, text_down};
 ghost use Rattle.idl_tree.specs.Interface.{spell_local};
@@ -55,6 +57,8 @@ pub fn optional()
         ≡ option_map (with_arrays lengths) t }
     ensures prefixes { (text : Option (List ℕ)) (p : Prefix) → prefix_told text p
         ≡ option_map_or (λ t. record { text = t; scope = [] }) text p }
+    ensures ids { (path : List (List ℕ)) → id_of path
+        ≡ and_then (known path) (λ d. Done (option_map_or (told path) d [])) }
     ensures taken { (name : Option (List ℕ × ℕ)) → taken_by name ≡ option_map_or (λ n. n.1) name 0 }
 {}
 

@@ -9,6 +9,7 @@ ghost use Rattle.idl_check.specs.tables.Codes.{Table, faults_by};
 ghost use Rattle.idl_check.specs.tables.Rules.{depth, is_interface, is_label_again, is_no_id, is_useless_default, is_visible, may_be_ahead, may_follow};
 ghost use Rattle.idl_check.specs.told.Labels.{Labels};
 ghost use Rattle.idl_check.specs.told.Types.{written_as};
+ghost use Rattle.idl_check.specs.walk.AllFaults.{or_else};
 ghost use Rattle.idl_check.specs.walk.Placing.{is_module, opened_kind, opening_faults};
 ghost use Rattle.idl_entity.specs.Kind.{kind_eq, stage_eq};
 ghost use Rattle.idl_entity.specs.Path.{name_of};
@@ -16,7 +17,9 @@ ghost use Rattle.idl_entity.specs.declared.data_type.DataType.{DataType};
 ghost use Rattle.idl_entity.specs.declared.entity.Entity.{Entity};
 ghost use Rattle.idl_entity.specs.declared.kind.Kind.TheVariants.{Interface, Module};
 ghost use Rattle.idl_entity.specs.declared.kind.Stage.TheVariants.{Ahead};
+ghost use Rattle.idl_env.specs.declared.answering.answer.Answer.{Answer};
 ghost use Rattle.idl_env.specs.declared.answering.answer.Scope.{Scope};
+ghost use Rattle.idl_env.specs.declared.keys.key.Key.{Key};
 ghost use Rattle.idl_fault.specs.declared.code.Code.TheVariants.{NestedTooDeep};
 ghost use Rattle.idl_lex.specs.tokens.Tokens.{Token};
 ghost use Rattle.idl_parts.specs.declared.part.Shape.{Shape};
@@ -24,6 +27,7 @@ ghost use Rattle.idl_plain.specs.Types.{type_in};
 ghost use Rattle.idl_unit.specs.Ending.{begins};
 ghost use Rattle.idl_unit.specs.Scoping.{opening_brace};
 ghost use Rattle.idl_unit.specs.TokenRules.{fault_at};
+ghost use Rattle.idl_unit.specs.declared.fault.Fault.{Fault};
 ghost use Rattle.idl_value.specs.ConstantType.{value_count};
 ghost use Rattle.idl_value.specs.Equal.{value_eq};
 ghost use Rattle.idl_value.specs.declared.value.Value.{Value};
@@ -48,6 +52,8 @@ pub fn refusals()
     ensures depths { (tokens : List Token) (scopes : List Scope) → opening_faults tokens scopes
         ≡ (if nat_le 64 (depth scopes)
         then map (λ n. fault_at n NestedTooDeep) (option_to_list (opening_brace tokens)) else []) }
+    ensures steps { (turns : ℕ) (answers : Key → Option Answer) (earlier later : List Fault)
+        → or_else turns answers earlier later ≡ elim earlier [ [] ↦ later | f ∷ more ↦ earlier ] }
     ensures faults { (n : ℕ) (table : Table) → faults_by n table
         ≡ flat_map (λ row. if row.0 then fault_at n row.1 ∷ [] else []) table }
 {}

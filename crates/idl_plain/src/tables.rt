@@ -4,9 +4,8 @@ ghost use Rattle.std.specs.Prelude.{◌≡◌, ◌↔◌, ◌∷◌, ◌++◌, �
 ghost use Rattle.std.specs.List.{enumerate_from, prefix_len};
 ghost use Rattle.std.specs.Map.{lookup};
 ghost use Rattle.idl_check.specs.tables.Declaring.{Written, entity_of};
-ghost use Rattle.idl_check.specs.tables.Using.{Bases, used_table};
 ghost use Rattle.idl_check.specs.told.Bodies.{Body, with_innermost, with_member};
-ghost use Rattle.idl_check.specs.walk.Walk.{Walk, declared_visit, used_after, with_scope};
+ghost use Rattle.idl_check.specs.walk.Walk.{Walk, declared_visit, used_visit, with_scope};
 ghost use Rattle.idl_check.specs.declared.tables.standing.Standing.{Standing};
 ghost use Rattle.idl_entity.specs.declared.entity.Entity.{Entity};
 ghost use Rattle.idl_env.specs.Facts.{World, after_step};
@@ -17,7 +16,6 @@ ghost use Rattle.idl_event.specs.declared.told.allowance.Allowance.{Allowance};
 ghost use Rattle.idl_event.specs.declared.told.event.Item.{Item};
 ghost use Rattle.idl_fault.specs.Code.{number_of};
 ghost use Rattle.idl_fault.specs.declared.code.Code.{Code};
-ghost use Rattle.idl_fault.specs.declared.code.Code.TheVariants.{WrongKind};
 ghost use Rattle.idl_lex.specs.bytes.Byte.{is_digit_of};
 ghost use Rattle.idl_lex.specs.kinds.Literal.{by_number, simple_escape};
 ghost use Rattle.idl_lex.specs.kinds.Marks.{marks as all_marks};
@@ -38,7 +36,7 @@ ghost use Rattle.idl_plain.specs.Ranks.{ranked_parts, ranked_term};
 ghost use Rattle.idl_plain.specs.Steps.{stepped};
 ghost use Rattle.idl_plain.specs.Tokens.{codes_behind};
 ghost use Rattle.idl_plain.specs.Types.{of_basics, of_integers, of_types};
-ghost use Rattle.idl_plain.specs.Used.{introduced, rules_of_used, walk_behind};
+ghost use Rattle.idl_plain.specs.Used.{used_at};
 ghost use Rattle.idl_repo.specs.TypeCode.{integer_word};
 ghost use Rattle.idl_scope.specs.declared.found.Found.{Found};
 ghost use Rattle.idl_tree.specs.DataType.{spell_basic, spell_discrete};
@@ -92,12 +90,8 @@ pub fn steps()
 
 /// Of each use of a name one line tells what it may denote, and the rules then; and one what it leaves behind.
 pub fn uses()
-    ensures rules { (way : Use) (bases : Bases) (e behind : Entity) → used_table way bases e behind
-        ≡ (let rules = rules_of_used way bases e behind in
-        if rules.0 then rules.1 else (true, WrongKind) ∷ []) }
-    ensures behind { (w : Walk) (way : Use) (name : ScopedName) (found : Found) (behind : Entity)
-        → used_after w way name found behind
-        ≡ walk_behind way found.entity behind (introduced w name found) }
+    ensures { (w : Walk) (way : Use) (name : ScopedName) (found : Found) (behind : Entity)
+        → used_visit w way name found behind ≡ used_at w way name found behind }
 {}
 
 /// The values of an integer type are those of its bits, with a sign or without; and each part of one is within those of 32 bits at least,

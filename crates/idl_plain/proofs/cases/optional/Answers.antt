@@ -1,4 +1,4 @@
-use Rattle.idl_plain.proofs.CaseLaws.{array-told, bases-told, operations-told, path-told, prefix-told, raised-told, switch-told, taken-told, target-told, there-told, value-told}
+use Rattle.idl_plain.proofs.CaseLaws.{array-told, bases-told, id-told, operations-told, path-told, prefix-told, raised-told, switch-told, taken-told, target-told, there-told, value-told}
 use Rattle.idl_plain.proofs.cases.optional.Goals as goal
 
 pub returns-clause-paths : goal.returns-clause-paths
@@ -30,6 +30,9 @@ returns-clause-arrays c = array-told
 
 pub returns-clause-prefixes : goal.returns-clause-prefixes
 returns-clause-prefixes c = prefix-told
+
+pub returns-clause-ids : goal.returns-clause-ids
+returns-clause-ids c = id-told
 
 pub returns-clause-taken : goal.returns-clause-taken
 returns-clause-taken c = taken-told

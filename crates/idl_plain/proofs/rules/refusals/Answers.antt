@@ -1,5 +1,5 @@
 use Rattle.std.proofs.Common.{refl}
-use Rattle.idl_plain.proofs.RuleLaws.{depths-told, faults-told, interface-told, useless-told}
+use Rattle.idl_plain.proofs.RuleLaws.{depths-told, faults-told, interface-told, steps-told, useless-told}
 use Rattle.idl_plain.proofs.rules.refusals.Goals as goal
 
 pub returns-clause-again : goal.returns-clause-again
@@ -19,6 +19,9 @@ returns-clause-interfaces c = interface-told
 
 pub returns-clause-depths : goal.returns-clause-depths
 returns-clause-depths c = depths-told
+
+pub returns-clause-steps : goal.returns-clause-steps
+returns-clause-steps c = steps-told
 
 pub returns-clause-faults : goal.returns-clause-faults
 returns-clause-faults c = faults-told
