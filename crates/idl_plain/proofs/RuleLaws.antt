@@ -83,7 +83,7 @@ useless-told unions = λ i. list_any (λ (l : Labels). idle-told l i) (take 1 un
 
 -- ---- faults
 
-pub steps-told : (turns : ℕ) (answers : Key → Option Answer) (earlier later : List Fault) → or_else turns answers earlier later ≡ elim earlier [ [] ↦ later | f ∷ more ↦ earlier ]
+pub steps-told : (turns : ℕ) (answers : Key → Option Answer) (earlier later : List Fault) → or_else turns answers earlier later ≡ elim earlier [ [] ↦ later | f ∷ fs ↦ f ∷ fs ]
 steps-told turns answers [] later = refl
 steps-told turns answers (f ∷ more) later = refl
 

@@ -116,14 +116,14 @@ module _ (quote : ℕ) where
   body-by b rest false false true told = at-quote rest
   body-by b rest false false false told = further b rest (nat_eq b 92) (told (nat_eq b 92))
 
-  body-told : (escaped : Bool) (rest : List ℕ) → literal_rest quote escaped rest ≡ on_line rest && ends rest (closing quote escaped rest)
+  rest-told : (escaped : Bool) (rest : List ℕ) → literal_rest quote escaped rest ≡ on_line rest && ends rest (closing quote escaped rest)
   unfolding closing
-  body-told escaped [] = refl
-  body-told escaped (b ∷ rest) = body-by b rest (nat_eq b newline) escaped (nat_eq b quote) (λ e. body-told e rest)
+  rest-told escaped [] = refl
+  rest-told escaped (b ∷ rest) = body-by b rest (nat_eq b newline) escaped (nat_eq b quote) (λ e. rest-told e rest)
 
 pub bodies-told : (quote : ℕ) (escaped : Bool) (rest : List ℕ) → literal_rest quote escaped rest
     ≡ not (list_any (λ b. nat_eq b newline) rest) && option_map_or (λ n. is_empty (drop (suc n) rest)) (closing quote escaped rest) true
-bodies-told quote escaped rest = body-told quote escaped rest
+bodies-told quote escaped rest = rest-told quote escaped rest
 
 zero-by : (b : ℕ) (rest : List ℕ) (x : Bool) → (if x then number_rest true false rest else number_rest false false (b ∷ rest))
     ≡ (if x || false then number_rest true false rest else number_rest false false (b ∷ rest))

@@ -1,5 +1,5 @@
 -- What comes of the sites of a unit over the answers before it. Nothing is asked on the way.
-use Rattle.std.specs.Prelude.{◌&&◌, ◌+◌, ◌++◌, [], ◌∷◌, Err, None, Ok, Option, Some, drop, fold, is_some, not, take, ℕ, if◌then◌else◌}
+use Rattle.std.specs.Prelude.{◌&&◌, ◌+◌, ◌++◌, [], ◌∷◌, Err, None, Ok, Option, Some, drop, fold, is_some, not, take, true, ℕ, if◌then◌else◌}
 use Rattle.std.specs.List.{list_any}
 use Rattle.std.specs.Option.{option_to_list}
 use Rattle.idl_check.specs.ids.About.{unnamed_faults}

@@ -1,6 +1,6 @@
 //! The laws of tokens by how they are spelled.
 
-ghost use Rattle.std.specs.Prelude.{◌≡◌, ◌&&◌, ◌∷◌, ◌||◌, [], Bool, List, None, Option, Some, drop, is_some, map, nat_eq, not, suc, take, true, ℕ, if◌then◌else◌};
+ghost use Rattle.std.specs.Prelude.{◌≡◌, ◌&&◌, ◌∷◌, ◌||◌, [], Bool, List, None, Option, Some, drop, false, is_some, map, nat_eq, not, suc, take, true, ℕ, if◌then◌else◌};
 ghost use Rattle.std.specs.List.{list_all, list_any};
 ghost use Rattle.std.specs.Option.{option_map_or, unwrap_or};
 ghost use Rattle.std.specs.Str.{bytes_eq};

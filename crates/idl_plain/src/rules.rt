@@ -53,7 +53,7 @@ pub fn refusals()
         ≡ (if nat_le 64 (depth scopes)
         then map (λ n. fault_at n NestedTooDeep) (option_to_list (opening_brace tokens)) else []) }
     ensures steps { (turns : ℕ) (answers : Key → Option Answer) (earlier later : List Fault)
-        → or_else turns answers earlier later ≡ elim earlier [ [] ↦ later | f ∷ more ↦ earlier ] }
+        → or_else turns answers earlier later ≡ elim earlier [ [] ↦ later | f ∷ fs ↦ f ∷ fs ] }
     ensures faults { (n : ℕ) (table : Table) → faults_by n table
         ≡ flat_map (λ row. if row.0 then fault_at n row.1 ∷ [] else []) table }
 {}
