@@ -1,5 +1,5 @@
 -- What a declared name comes to, and the ranges of integers.
-use Rattle.std.proofs.Common.{◌≡◌, ◌+◌, ◌++◌, ◌-◌, ◌^◌, ◌&&◌, ◌||◌, [], ◌∷◌, Bool, Err, List, None, Ok, Option, Some, ap, cond, false, filter, fold, is_none, map, max, not, refl, true, ℕ, ℤ, neg_ℤ, pos}
+use Rattle.std.proofs.Common.{◌≡◌, ◌+◌, ◌++◌, ◌-◌, ◌^◌, ◌&&◌, ◌||◌, [], ◌∷◌, Bool, Err, List, None, Ok, Option, Some, ap, cond, false, filter, fold, is_none, map, max, refl, true, ℤ, neg_ℤ, pos}
 use Rattle.std.specs.Option.{option_to_list}
 use Rattle.std.specs.Prelude.{if◌then◌else◌, int_le}
 use Rattle.idl_check.specs.ids.Identifying.{with_identity}
@@ -7,7 +7,7 @@ use Rattle.idl_check.specs.tables.Codes.{faults_by}
 use Rattle.idl_check.specs.tables.Declaring.{with_declared, written_after}
 use Rattle.idl_check.specs.tables.Rules.{is_there, may_follow}
 use Rattle.idl_check.specs.told.Bodies.{Body, comes_out, goes_in, with_innermost, with_member}
-use Rattle.idl_check.specs.walk.Walk.{Visit, Walk, declared_visit, is_begun}
+use Rattle.idl_check.specs.walk.Walk.{Walk, declared_visit, is_begun}
 use Rattle.idl_check.specs.declared.ids.identifying.Ids.{Ids}
 use Rattle.idl_check.specs.declared.tables.standing.Standing.{Standing}
 use Rattle.idl_entity.specs.Kind.{kind_eq, stage_eq}

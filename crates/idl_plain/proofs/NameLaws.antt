@@ -1,24 +1,21 @@
 -- Names are looked up part by part, and how far their uses go.
-use Rattle.std.proofs.Common.{◌≡◌, ◌∙◌, ◌+◌, ◌++◌, ◌-◌, [], ◌∷◌, Bool, Err, List, None, Ok, Option, Result, Some, ap, arith, cond, drop, false, fold, is_some, map, min, not, refl, scan, slice_get, suc, sym, take, true, zero, ℕ}
+use Rattle.std.proofs.Common.{◌≡◌, ◌∙◌, ◌+◌, ◌++◌, ◌-◌, [], ◌∷◌, Bool, Err, List, None, Ok, Option, Result, Some, ap, arith, cond, drop, false, fold, is_some, map, min, not, refl, scan, slice_get, suc, take, true, ℕ}
 use Rattle.std.specs.List.{list_any, prefix_len}
 use Rattle.std.specs.Option.{option_to_list}
 use Rattle.std.specs.Prelude.{if◌then◌else◌}
-use Rattle.idl_check.specs.ids.About.{Said, about_entity, refused_for}
+use Rattle.idl_check.specs.ids.About.{Said, refused_for}
 use Rattle.idl_check.specs.ids.Remarks.{prefixed_at, remark, unless}
 use Rattle.idl_check.specs.tables.Codes.{faults_by}
-use Rattle.idl_check.specs.tables.Rules.{is_no_id, is_no_prefix}
+use Rattle.idl_check.specs.tables.Rules.{is_no_prefix}
 use Rattle.idl_check.specs.tables.Using.{further_uses, with_uses}
 use Rattle.idl_entity.specs.Kind.{is_scope, kind_eq}
 use Rattle.idl_entity.specs.declared.entity.Entity.{Entity}
-use Rattle.idl_entity.specs.declared.identity.Fixed.TheVariants.{Id}
 use Rattle.idl_entity.specs.declared.kind.Kind.TheVariants.{Module}
 use Rattle.idl_env.specs.Facts.{over, typeprefix_in, with_addition}
 use Rattle.idl_env.specs.declared.additions.addition.Addition.{Addition}
 use Rattle.idl_env.specs.declared.additions.addition.Addition.TheVariants.{TypePrefixes, Uses, UsesFurther}
 use Rattle.idl_env.specs.declared.additions.addition.Step.TheVariants.{Stays}
-use Rattle.idl_env.specs.declared.answering.answer.Answer.{Answer}
 use Rattle.idl_env.specs.declared.answering.answer.Scope.{Scope}
-use Rattle.idl_env.specs.declared.keys.key.Key.{Key}
 use Rattle.idl_env.specs.declared.keys.key.Key.TheVariants.{Typeprefix}
 use Rattle.idl_fault.specs.declared.code.Code.TheVariants.{NoScope as NoScopeCode, RepeatedTypeprefix}
 use Rattle.idl_lex.specs.kinds.Keywords.{folded}
@@ -27,7 +24,7 @@ use Rattle.idl_parts.specs.declared.part.TextPurpose.{TextPurpose}
 use Rattle.idl_parts.specs.declared.part.TextPurpose.TheVariants as text
 use Rattle.idl_plain.proofs.RuleLaws.{one}
 use Rattle.idl_plain.specs.Names.{asked_in, asked_of, remark_on}
-use Rattle.idl_scope.specs.Lookup.{before_module, by_result, decided, declares_at, denoted, extent, found_as, further, has, judged, placed, reach_by, reach_of}
+use Rattle.idl_scope.specs.Lookup.{before_module, by_result, decided, denoted, extent, found_as, further, has, judged, placed, reach_by, reach_of}
 use Rattle.idl_scope.specs.Meaning.{searched, undeclared}
 use Rattle.idl_scope.specs.Question.{Lookup}
 use Rattle.idl_scope.specs.declared.fault.NameCode.{NameCode}

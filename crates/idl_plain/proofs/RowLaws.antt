@@ -22,7 +22,7 @@ use Rattle.idl_plain.specs.Rows.{code_row, element_row, entries_row, kind_row, l
 use Rattle.idl_repo.specs.Entry.{closing_fault, entry, entry_in}
 use Rattle.idl_repo.specs.Pieces.{IdOf, Pieces, Says, commas, says, with_commas, written}
 use Rattle.idl_repo.specs.Row.{base_pieces, behind_id, direction_word, flag, kind_word, parameter_pieces, path_text, row_pieces, value_pieces}
-use Rattle.idl_repo.specs.TypeCode.{default_at, default_word, element_pieces, entries_of, interface_head, label_word, layer_end, layer_word, layers_begin, listed_value, shown, type_pieces, typed_pieces}
+use Rattle.idl_repo.specs.TypeCode.{default_at, default_word, element_pieces, entries_of, interface_head, label_word, layer_end, layer_word, layers_begin, shown, type_pieces, typed_pieces}
 use Rattle.idl_repo.specs.declared.entry.Entry.{Entry}
 use Rattle.idl_scope.specs.Lookup.{Lookup}
 use Rattle.idl_value.specs.Spelled.{value_word}

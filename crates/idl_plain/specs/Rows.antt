@@ -18,7 +18,6 @@ use Rattle.idl_repo.specs.Pieces.{IdOf, Pieces, Says, commas, says, with_commas}
 use Rattle.idl_repo.specs.TypeCode.{listed_value}
 use Rattle.idl_value.specs.Spelled.{value_word}
 use Rattle.idl_value.specs.declared.constant_type.ConstantType.TheVariants as target
-use Rattle.idl_value.specs.declared.value.Value.{Value}
 use Rattle.idl_value.specs.declared.value.Value.TheVariants.{Text}
 
 -- references to what is declared at these paths: `@` and the id of each, with commas between

@@ -7,7 +7,7 @@ use Rattle.idl_check.specs.ids.Remarks.{is_bad_text, purpose_of, remark}
 use Rattle.idl_check.specs.tables.Declaring.{entity_of}
 use Rattle.idl_check.specs.tables.Rules.{has_id, is_useless_default, may_be_ahead}
 use Rattle.idl_check.specs.tables.Using.{name_code}
-use Rattle.idl_check.specs.told.Bodies.{Body, array_of, told_innermost, with_array_type, with_body_label, with_innermost, with_text}
+use Rattle.idl_check.specs.told.Bodies.{array_of, told_innermost, with_array_type, with_body_label, with_innermost, with_text}
 use Rattle.idl_check.specs.told.Labels.{no_labels, with_label}
 use Rattle.idl_check.specs.told.Types.{looked_through, target_in, written_as}
 use Rattle.idl_check.specs.told.Values.{evaluation_for, number_of, with_operand}
