@@ -1,6 +1,5 @@
 -- What is one thing with a value, or of a choice, and another without it.
-use Rattle.std.proofs.Common.{◌≡◌, ◌&&◌, ◌∷◌, [], Bool, List, None, Option, Some, codes, cond, drop, false, filter, refl, slice_get, take, true, ℕ}
-use Rattle.std.specs.List.{list_any}
+use Rattle.std.proofs.Common.{◌≡◌, ◌&&◌, ◌∷◌, [], Bool, List, None, Option, Some, codes, cond, drop, false, filter, refl, slice_get, true, ℕ}
 use Rattle.std.specs.Option.{option_and_then, option_map, option_map_or, option_to_list, unwrap_or}
 use Rattle.std.specs.Prelude.{if◌then◌else◌}
 use Rattle.idl_check.specs.tables.Rules.{is_there}
@@ -17,9 +16,7 @@ use Rattle.idl_entity.specs.declared.identity.Identity.{Identity}
 use Rattle.idl_entity.specs.declared.identity.Prefix.{Prefix}
 use Rattle.idl_entity.specs.declared.kind.Kind.TheVariants.{Attribute}
 use Rattle.idl_env.specs.Facts.{operations_of}
-use Rattle.idl_lex.specs.declared.tokens.token.PlacedToken.{PlacedToken}
 use Rattle.idl_macro.specs.Condition.{taken_by, truth}
-use Rattle.idl_macro.specs.Directives.{begins_parameters, opens_parameters}
 use Rattle.idl_memo.specs.Query.{Done, and_then}
 use Rattle.idl_parts.specs.Part.{GivesBack}
 use Rattle.idl_parts.specs.UnitParts.{given_back}
@@ -37,7 +34,6 @@ use Rattle.idl_value.specs.Evaluation.{Faulty, Operands, value_of}
 use Rattle.idl_value.specs.Spelled.{scope_of, truth_word}
 use Rattle.idl_value.specs.Term.{leading}
 use Rattle.idl_value.specs.declared.constant_type.ConstantType.{ConstantType}
-use Rattle.idl_plain.proofs.RuleLaws.{one}
 
 pub path-told : (t : Option DataType) → path_in t ≡ option_and_then named_in t
 path-told None = refl
@@ -129,7 +125,3 @@ name-told (n ∷ scope) = refl
 pub scope-told : (path : List (List ℕ)) → scope_of path ≡ drop 1 path
 scope-told [] = refl
 scope-told (n ∷ scope) = refl
-
-pub parameters-told : (operands : List PlacedToken) → begins_parameters operands ≡ list_any opens_parameters (take 1 operands)
-parameters-told [] = refl
-parameters-told (t ∷ operands) = one (opens_parameters t)

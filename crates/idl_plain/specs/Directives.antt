@@ -1,5 +1,5 @@
--- What comes of conditions, definitions, includes and pragmas (after ISO/IEC 9899, 6.10).
-use Rattle.std.specs.Prelude.{◌∷◌, [], Bool, List, None, Option, Some, codes, false, is_some, not, slice_get, ℕ, if◌then◌else◌}
+-- What comes of definitions, pragmas and the operands of includes (after ISO/IEC 9899, 6.10).
+use Rattle.std.specs.Prelude.{◌∷◌, [], List, None, Option, Some, codes, is_some, not, slice_get, ℕ, if◌then◌else◌}
 use Rattle.std.specs.Cmp.Lexicographic.{pointwise}
 use Rattle.std.specs.List.{list_any}
 use Rattle.std.specs.Option.{option_to_list}
@@ -9,36 +9,22 @@ use Rattle.idl_event.specs.Expanding.{Expanding}
 use Rattle.idl_event.specs.declared.asked.key.RootKey.TheVariants as key
 use Rattle.idl_event.specs.declared.told.event.Event.TheVariants.{Fault, Pragma}
 use Rattle.idl_event.specs.declared.told.event.Item.TheVariants.{Counted, Kept}
-use Rattle.idl_fault.specs.declared.code.Code.TheVariants.{BadCondition, MalformedInclude, MalformedMacro, NotFound, OtherDefinition}
+use Rattle.idl_fault.specs.declared.code.Code.TheVariants.{MalformedMacro, OtherDefinition}
 use Rattle.idl_fault.specs.declared.file_name.FileName.{FileName}
 use Rattle.idl_fault.specs.declared.place.Place.{Place}
 use Rattle.idl_lex.specs.kinds.Word.{is_word}
 use Rattle.idl_lex.specs.tokens.Tokens.{Token, tokens_in}
 use Rattle.idl_lex.specs.declared.tokens.token.PlacedToken.{PlacedToken}
-use Rattle.idl_macro.specs.Condition.{defined_read, value}
 use Rattle.idl_macro.specs.Directives.{definition_in, saying}
 use Rattle.idl_macro.specs.Macros.{Definitions, macro_of}
 use Rattle.idl_macro.specs.Replace.{operand, place_at}
-use Rattle.idl_macro.specs.conditions.Arithmetic.{is_zero}
 use Rattle.idl_memo.specs.Query.{Ask, Done, Tell, and_then}
-use Rattle.idl_prep.specs.Directive.{Enter}
-use Rattle.idl_prep.specs.Include.{Found, Operand, directories_in, file_of, first_present, operand_given, operand_in, operand_of}
-use Rattle.idl_prep.specs.Place.{place_in}
+use Rattle.idl_prep.specs.Include.{Found, Operand, directories_in, first_present, operand_given, operand_in}
 use Rattle.idl_prep.specs.State.{Said}
 use Rattle.idl_source.specs.names.Candidates.{along}
 use Rattle.idl_source.specs.names.Directory.{directory_of}
 use Rattle.idl_source.specs.names.Path.{is_rooted, joined_path}
 use Rattle.idl_text.specs.Line.{Directive}
-
--- whether a condition holds: it has a value other than zero, where each `defined` is read, and then
--- each macro replaced
-abbrev pub condition_at : Place → List ℕ → Definitions → List PlacedToken → Expanding Bool
-condition_at place word definitions operands =
-    and_then (defined_read definitions (tokens_in operands)) (λ read.
-    and_then (operand place definitions read) (λ given. elim (value given) [
-      | None ↦ Tell (Kept (Fault place BadCondition (Some word))) (Done false)
-      | Some z ↦ Done (not (is_zero z))
-    ]))
 
 -- the macros behind `define`: there is one more, unless there is one of other tokens
 abbrev pub defined_at : Place → List ℕ → Definitions → List PlacedToken → Expanding Definitions
@@ -71,19 +57,6 @@ file_at from o =
     let further = Ask key.Search (λ a. first_present (along (directories_in a) o.name)) in
     if is_rooted o.name then beside else if o.is_quoted
     then and_then beside (λ found. if is_some found then Done found else further) else further
-
--- behind `include`: the file is entered, unless it isn't to be entered again
-abbrev pub included : Enter → FileName → Directive → Said → Expanding Said
-included enter file d s =
-    let place = place_in file d in
-    and_then (operand_of place s.definitions d.operands) (λ given. elim given [
-      | None ↦ Tell (Kept (Fault place MalformedInclude (Some d.word.token))) (Done s)
-      | Some o ↦ and_then (file_of file o) (λ found. elim found [
-        | None ↦ Tell (Kept (Fault place NotFound (Some o.spelling))) (Done s)
-        | Some f ↦
-            if list_any (bytes_eq f.name) s.once then Done s else enter place f.name f.lines s
-      ])
-    ])
 
 -- behind `pragma`: this file isn't to be entered again, or something is said to IDL
 abbrev pub minded : FileName → Directive → Said → Expanding Said

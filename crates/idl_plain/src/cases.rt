@@ -1,7 +1,6 @@
 //! The laws of what is one thing with a value, or of a choice, and another without it.
 
-ghost use Rattle.std.specs.Prelude.{◌≡◌, ◌&&◌, ◌∷◌, [], Bool, List, None, Option, codes, drop, false, filter, slice_get, take, ℕ, if◌then◌else◌};
-ghost use Rattle.std.specs.List.{list_any};
+ghost use Rattle.std.specs.Prelude.{◌≡◌, ◌&&◌, ◌∷◌, [], Bool, List, Option, codes, drop, false, filter, slice_get, ℕ, if◌then◌else◌};
 ghost use Rattle.std.specs.Option.{option_and_then, option_map, option_map_or, option_to_list, unwrap_or};
 ghost use Rattle.idl_check.specs.tables.Rules.{is_there};
 ghost use Rattle.idl_check.specs.told.Bodies.{Clauses, array_type, raises, raising};
@@ -16,9 +15,7 @@ ghost use Rattle.idl_entity.specs.declared.entity.Entity.{Entity};
 ghost use Rattle.idl_entity.specs.declared.identity.Prefix.{Prefix};
 ghost use Rattle.idl_entity.specs.declared.kind.Kind.TheVariants.{Attribute};
 ghost use Rattle.idl_env.specs.Facts.{operations_of};
-ghost use Rattle.idl_lex.specs.declared.tokens.token.PlacedToken.{PlacedToken};
 ghost use Rattle.idl_macro.specs.Condition.{taken_by, truth};
-ghost use Rattle.idl_macro.specs.Directives.{begins_parameters, opens_parameters};
 ghost use Rattle.idl_memo.specs.Query.{Done, and_then};
 ghost use Rattle.idl_parts.specs.Part.{GivesBack};
 ghost use Rattle.idl_parts.specs.UnitParts.{given_back};
@@ -74,10 +71,8 @@ pub fn chosen()
         ≡ drop (if rooted then 0 else 1) (slashed segments) }
 {}
 
-/// A path begins with the name of what stands there, behind which stands the scope; and parameters with their parenthesis.
+/// A path begins with the name of what stands there, behind which stands the scope.
 pub fn begun()
     ensures names { (path : List (List ℕ)) → name_of path ≡ unwrap_or (slice_get path 0) [] }
     ensures scopes { (path : List (List ℕ)) → scope_of path ≡ drop 1 path }
-    ensures parameters { (operands : List PlacedToken) → begins_parameters operands
-        ≡ list_any opens_parameters (take 1 operands) }
 {}

@@ -18,7 +18,7 @@ mod tables;
 mod visits;
 
 pub use cases::{begun, chosen, optional};
-pub use directives::{files, macros};
+pub use directives::{files, macros, operands};
 pub use forms::{beginnings, firsts, kinds, tests};
 pub use laws::{additions, answers, conditions, pragmas, sameness, units};
 pub use lexemes::spellings;

@@ -1,6 +1,6 @@
 //! The laws that a table has what several definitions say.
 
-ghost use Rattle.std.specs.Prelude.{◌≡◌, ◌↔◌, ◌∷◌, ◌++◌, ◌+◌, ◌-◌, ◌^◌, ◌&&◌, [], ℕ, ℤ, Bool, Contains, Err, List, None, Ok, Option, Some, flat_map, int_le, is_some, map, max, nat_eq, nat_le, nat_lt, neg_ℤ, pos, take, true, if◌then◌else◌};
+ghost use Rattle.std.specs.Prelude.{◌≡◌, ◌↔◌, ◌∷◌, ◌++◌, ◌+◌, ◌-◌, ◌^◌, ◌&&◌, [], ℕ, ℤ, Contains, Err, List, None, Ok, Some, flat_map, int_le, is_some, map, max, nat_eq, nat_le, nat_lt, neg_ℤ, pos, take, if◌then◌else◌};
 ghost use Rattle.std.specs.List.{enumerate_from, prefix_len};
 ghost use Rattle.std.specs.Map.{lookup};
 ghost use Rattle.idl_check.specs.tables.Declaring.{Written, entity_of};

@@ -1,4 +1,4 @@
-use Rattle.idl_plain.proofs.CaseLaws.{name-told, parameters-told, scope-told}
+use Rattle.idl_plain.proofs.CaseLaws.{name-told, scope-told}
 use Rattle.idl_plain.proofs.cases.begun.Goals as goal
 
 pub returns-clause-names : goal.returns-clause-names
@@ -6,6 +6,3 @@ returns-clause-names c = name-told
 
 pub returns-clause-scopes : goal.returns-clause-scopes
 returns-clause-scopes c = scope-told
-
-pub returns-clause-parameters : goal.returns-clause-parameters
-returns-clause-parameters c = parameters-told
