@@ -1,5 +1,5 @@
 -- What comes of a directive is told in one.
-use Rattle.std.proofs.Common.{◌≡◌, ◌∷◌, ◌||◌, [], ℕ, Bool, List, None, Option, Some, codes, false, is_none, is_some, not, refl, slice_get, true}
+use Rattle.std.proofs.Common.{◌≡◌, ◌&&◌, ◌+◌, ◌++◌, ◌-◌, ◌∷◌, ◌||◌, [], ℕ, Bool, List, None, Option, Some, ap, codes, drop, false, is_none, is_some, nat_eq, not, refl, replicate, slice_get, take, true}
 use Rattle.std.specs.Cmp.Lexicographic.{pointwise}
 use Rattle.std.specs.List.{list_any}
 use Rattle.std.specs.Option.{option_to_list}
@@ -10,26 +10,24 @@ use Rattle.idl_event.specs.Expanding.{Expanding}
 use Rattle.idl_event.specs.declared.asked.key.RootKey.TheVariants as key
 use Rattle.idl_event.specs.declared.told.event.Event.TheVariants.{Fault, Pragma}
 use Rattle.idl_event.specs.declared.told.event.Item.TheVariants.{Counted, Kept}
-use Rattle.idl_fault.specs.declared.code.Code.TheVariants.{BadCondition, MalformedInclude, MalformedMacro, NotFound, OtherDefinition}
+use Rattle.idl_fault.specs.declared.code.Code.TheVariants.{MalformedMacro, OtherDefinition}
 use Rattle.idl_fault.specs.declared.file_name.FileName.{FileName}
 use Rattle.idl_fault.specs.declared.place.Place.{Place}
 use Rattle.idl_lex.specs.kinds.Word.{is_word}
 use Rattle.idl_lex.specs.tokens.Tokens.{Token, tokens_in}
 use Rattle.idl_lex.specs.declared.tokens.token.PlacedToken.{PlacedToken}
-use Rattle.idl_macro.specs.Condition.{condition, defined_read, judged, value}
-use Rattle.idl_macro.specs.Directives.{define, defining, definition_in, first_word, ifdef, ifndef, is_macro_there, is_missing, is_there, saying}
+use Rattle.idl_macro.specs.Directives.{begins_parameters, define, defining, definition_in, first_word, ifdef, ifndef, is_macro_there, is_missing, is_there, saying}
 use Rattle.idl_macro.specs.Macros.{Definitions, macro_of}
 use Rattle.idl_macro.specs.Replace.{operand, place_at}
-use Rattle.idl_macro.specs.conditions.Arithmetic.{Value, is_zero}
 use Rattle.idl_memo.specs.Query.{Ask, Done, Query, Tell, and_then}
 use Rattle.idl_plain.specs.Macros.{macro_test}
-use Rattle.idl_prep.specs.Directive.{Enter, entering, include, including, pragma, pragma_by, first_spelling}
+use Rattle.idl_prep.specs.Directive.{pragma, pragma_by, first_spelling}
 use Rattle.idl_prep.specs.Include.{Found, Operand, directories_in, file_of, first_present, operand_by, operand_given, operand_in, operand_of, or_along, present_along}
-use Rattle.idl_prep.specs.Place.{place_in}
 use Rattle.idl_prep.specs.State.{Said}
 use Rattle.idl_source.specs.names.Candidates.{along}
 use Rattle.idl_source.specs.names.Directory.{directory_of}
-use Rattle.idl_source.specs.names.Path.{is_rooted, joined_path}
+use Rattle.idl_source.specs.names.Name.{is_name, is_plain, is_up}
+use Rattle.idl_source.specs.names.Path.{Path, is_rooted, joined_path, led_by, name_of, slashed, text_of}
 use Rattle.idl_text.specs.Line.{Directive}
 
 module _ {K V X A B C : Type 0} where
@@ -73,22 +71,6 @@ module _ (place : Place) (word : List ℕ) (definitions : Definitions) where
   pub missing-told : (operands : List PlacedToken) → ifndef place word definitions operands ≡ macro_test is_none place word definitions operands
   unfolding ifndef is_macro_there
   missing-told operands = missing-by (first_word operands)
-
-  judged-so : (v : Value) → judged place word v ≡ elim v [
-    | None ↦ Tell (Kept (Fault place BadCondition (Some word))) (Done false)
-    | Some z ↦ Done (not (is_zero z))
-  ]
-  judged-so None = refl
-  judged-so (Some z) = refl
-
-  pub valued-told : (operands : List PlacedToken) → condition place word definitions operands
-      ≡ and_then (defined_read definitions (tokens_in operands)) (λ read.
-      and_then (operand place definitions read) (λ given. elim (value given) [
-        | None ↦ Tell (Kept (Fault place BadCondition (Some word))) (Done false)
-        | Some z ↦ Done (not (is_zero z))
-      ]))
-  unfolding condition
-  valued-told operands = λ i. and_then (defined_read definitions (tokens_in operands)) (λ read. and_then (operand place definitions read) (λ given. judged-so (value given) i))
 
   abbrev other : List Token → Option (List Token) → Bool
   other body old = list_any (λ (b : List Token). not (pointwise bytes_eq b body)) (option_to_list old)
@@ -174,38 +156,6 @@ module _ (from : FileName) (o : Operand) where
       if is_rooted o.name then beside else if o.is_quoted
       then and_then beside (λ found. found-by found i) else further
 
-module _ (enter : Enter) (file : FileName) (d : Directive) (s : Said) where
-  entered-by : (o : Operand) (found : Option Found) → entering enter (place_in file d) o s found ≡ elim found [
-    | None ↦ Tell (Kept (Fault (place_in file d) NotFound (Some o.spelling))) (Done s)
-    | Some f ↦ if list_any (bytes_eq f.name) s.once then Done s
-        else enter (place_in file d) f.name f.lines s
-  ]
-  entered-by o None = refl
-  entered-by o (Some f) = refl
-
-  entered-with : (given : Option Operand) → including enter file d s given ≡ elim given [
-    | None ↦ Tell (Kept (Fault (place_in file d) MalformedInclude (Some d.word.token))) (Done s)
-    | Some o ↦ and_then (file_of file o) (λ found. elim found [
-      | None ↦ Tell (Kept (Fault (place_in file d) NotFound (Some o.spelling))) (Done s)
-      | Some f ↦ if list_any (bytes_eq f.name) s.once then Done s
-          else enter (place_in file d) f.name f.lines s
-    ])
-  ]
-  entered-with None = refl
-  entered-with (Some o) = λ i. and_then (file_of file o) (λ found. entered-by o found i)
-
-  pub entered-told : include enter file d s
-      ≡ and_then (operand_of (place_in file d) s.definitions d.operands) (λ given. elim given [
-        | None ↦ Tell (Kept (Fault (place_in file d) MalformedInclude (Some d.word.token))) (Done s)
-        | Some o ↦ and_then (file_of file o) (λ found. elim found [
-          | None ↦ Tell (Kept (Fault (place_in file d) NotFound (Some o.spelling))) (Done s)
-          | Some f ↦ if list_any (bytes_eq f.name) s.once then Done s
-              else enter (place_in file d) f.name f.lines s
-        ])
-      ])
-  unfolding include
-  entered-told = λ i. and_then (operand_of (place_in file d) s.definitions d.operands) (λ given. entered-with given i)
-
 module _ (file : FileName) (d : Directive) (s : Said) where
   of-three : (a b c : Bool) → a || (b || c) ≡ a || (b || (c || false))
   of-three a b c = λ i. a || (b || no-more c i)
@@ -238,3 +188,30 @@ module _ (file : FileName) (d : Directive) (s : Said) where
   ]
   unfolding pragma
   pragmas-told = pragma-by d.operands
+
+-- ---- operands
+
+pub path-told : (rooted : Bool) (path : Path) → name_of rooted path ≡ (
+    let text = slashed (replicate path.up (codes "..") ++ path.down) in
+    let name = if rooted then text else drop 1 text in
+    if is_name name then Some name else None)
+unfolding text_of
+path-told true path = refl
+path-told false path = refl
+
+module _ (segment : List ℕ) (path : Path) where
+  step-by : (plain level : Bool) → (if plain then (if level then record path { down = segment ∷ path.down } else record path { up = path.up - 1 }) else path)
+      ≡ (if not plain then path else if level then record path { down = segment ∷ path.down } else record path { up = path.up - 1 })
+  step-by true level = refl
+  step-by false level = refl
+
+  pub step-told : led_by segment path ≡ (
+      let down = record path { down = segment ∷ path.down } in
+      if is_up segment then record path { up = path.up + 1 }
+      else if not (is_plain segment) then path
+      else if nat_eq path.up 0 then down else record path { up = path.up - 1 })
+  step-told = ap (λ (p : Path). if is_up segment then record path { up = path.up + 1 } else p) (step-by (is_plain segment) (nat_eq path.up 0))
+
+pub parameters-told : (operands : List PlacedToken) → begins_parameters operands ≡ list_any (λ t. t.follows_word && bytes_eq t.token (codes "(")) (take 1 operands)
+parameters-told [] = refl
+parameters-told (t ∷ operands) = no-more (t.follows_word && bytes_eq t.token (codes "("))

@@ -1,16 +1,21 @@
 -- A test of one form holds of that alone, and of a beginning where a text begins so.
-use Rattle.std.proofs.Common.{◌≡◌, ◌∙◌, ◌⊎◌, ◌&&◌, ℕ, zero, suc, ℤ, pos, negsuc, Bool, false, true, List, [], ◌∷◌, codes, inl, inr, nat_eq, not, refl, ap}
+use Rattle.std.proofs.Common.{◌≡◌, ◌∙◌, ◌⊎◌, ◌&&◌, ℕ, zero, suc, ℤ, pos, negsuc, Bool, false, true, List, [], ◌∷◌, codes, inl, inr, map, nat_eq, not, refl, slice_get, ap}
+use Rattle.std.specs.Option.{unwrap_or}
 use Rattle.std.specs.Cmp.{nat_eq_equiv}
 use Rattle.std.specs.List.{list_any, starts_with}
 use Rattle.std.specs.Prelude.{◌↔◌}
 use Rattle.idl_check.specs.tables.Rules.{has_id, is_type}
 use Rattle.idl_check.specs.told.Bodies.{is_nothing as raises_none}
 use Rattle.idl_check.specs.walk.Placing.{is_module}
+use Rattle.idl_entity.specs.Identity.{no_prefix}
 use Rattle.idl_entity.specs.Kind.{has_bases, is_scope, kind_eq}
 use Rattle.idl_entity.specs.declared.kind.Kind.{Kind}
 use Rattle.idl_entity.specs.declared.kind.Kind.TheVariants as kind
 use Rattle.idl_entity.specs.declared.kind.Stage.{Stage}
 use Rattle.idl_entity.specs.declared.kind.Stage.TheVariants.{Ahead, Begun, Complete, Open}
+use Rattle.idl_entity.specs.declared.identity.Prefix.{Prefix}
+use Rattle.idl_env.specs.Facts.{given_back, innermost, path_around}
+use Rattle.idl_env.specs.declared.answering.answer.Scope.{Scope}
 use Rattle.idl_lex.specs.bytes.Context.{is_include, is_newline, is_nothing}
 use Rattle.idl_lex.specs.bytes.Piece.{is_empty}
 use Rattle.idl_lex.specs.declared.bytes.context.Beginning.{Beginning}
@@ -190,3 +195,17 @@ kinds-ids kind.Attribute = refl
 kinds-ids kind.Operation = refl
 kinds-ids kind.Parameter = refl
 kinds-ids kind.Member = refl
+
+-- ---- the first of a list
+
+pub prefix-first : (prefixes : List Prefix) → given_back prefixes ≡ unwrap_or (slice_get prefixes 0) no_prefix
+prefix-first [] = refl
+prefix-first (p ∷ ps) = refl
+
+pub operations-first : (inside : List (List (List (List ℕ)))) → innermost inside ≡ unwrap_or (slice_get inside 0) []
+operations-first [] = refl
+operations-first (own ∷ outer) = refl
+
+pub path-first : (scopes : List Scope) → path_around scopes ≡ unwrap_or (slice_get (map (λ s. s.path) scopes) 0) []
+path-first [] = refl
+path-first (s ∷ scopes) = refl

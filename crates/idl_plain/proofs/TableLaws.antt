@@ -1,10 +1,11 @@
 -- Tables have what several definitions say.
-use Rattle.std.proofs.Common.{◌≡◌, ◌∙◌, ◌+◌, ℕ, Bool, true, false, cond, List, [], ◌∷◌, ◌++◌, Option, None, Some, drop, refl, ap}
+use Rattle.std.proofs.Common.{◌≡◌, ◌∙◌, ℕ, Bool, true, false, cond, List, [], ◌∷◌, ◌++◌, Option, None, Some, drop, refl, ap}
 use Rattle.std.specs.Prelude.{if◌then◌else◌, is_some}
+use Rattle.idl_check.specs.tables.Codes.{faults_by}
 use Rattle.idl_check.specs.tables.Declaring.{Written, entity_of}
-use Rattle.idl_check.specs.tables.Using.{Bases, last_after, own_after, used_table, with_uses}
+use Rattle.idl_check.specs.tables.Using.{Bases, last_after, own_after, used_table}
 use Rattle.idl_check.specs.told.Types.{element_of}
-use Rattle.idl_check.specs.walk.Walk.{Walk, used_after, with_scope}
+use Rattle.idl_check.specs.walk.Walk.{Walk, used_after, used_visit, with_scope}
 use Rattle.idl_entity.specs.declared.data_type.Element.TheVariants.{Constants}
 use Rattle.idl_entity.specs.declared.entity.Entity.{Entity}
 use Rattle.idl_env.specs.Facts.{World, after_step}
@@ -17,7 +18,6 @@ use Rattle.idl_event.specs.declared.told.event.Event.TheVariants as event
 use Rattle.idl_event.specs.declared.told.event.Item.{Item}
 use Rattle.idl_event.specs.declared.told.event.Item.TheVariants as item
 use Rattle.idl_fault.specs.declared.code.Code.TheVariants.{LeftOut, LikeKeyword, MixedWidths, NestedTooDeep, WrongKind}
-use Rattle.idl_lex.specs.kinds.Keywords.{folded}
 use Rattle.idl_lex.specs.kinds.Number.{are_digits, based, integer_value, is_floating, kind_of_value, limited, number, number_kind}
 use Rattle.idl_lex.specs.declared.kinds.keyword.Keyword.TheVariants.{Const, Double, Float, Long}
 use Rattle.idl_lex.specs.declared.kinds.kind.Defect.TheVariants.{FloatingLiteral, IntegerTooLarge, MalformedInteger}
@@ -34,7 +34,7 @@ use Rattle.idl_plain.specs.Operators.{before as at_one, between}
 use Rattle.idl_plain.specs.Steps.{stepped}
 use Rattle.idl_plain.specs.Tokens.{codes_behind, is_mixed, is_refused}
 use Rattle.idl_plain.specs.Types.{of_basics, of_integers, of_sizes, of_types, of_words}
-use Rattle.idl_plain.specs.Used.{rules_of_used, walk_behind}
+use Rattle.idl_plain.specs.Used.{introduced, rules_of_used, used_at, walk_behind}
 use Rattle.idl_repo.specs.TypeCode.{integer_word}
 use Rattle.idl_scope.specs.declared.found.Found.{Found}
 use Rattle.idl_tree.specs.DataType.{sized_word, spell_basic, spell_discrete, spell_sign, spell_size}
@@ -153,19 +153,19 @@ pub scopes-told : (w : Written) (way : Declaration) (name : List ℕ) (s : Scope
 scopes-told w way name s scopes =
     ap (λ (e : Entity). record { path = e.path; kind = e.kind; body = 1 } ∷ s ∷ scopes) (entities-told w way name s.path)
 
-pub uses-told : (way : Use) (bases : Bases) (e behind : Entity)
+rules-told : (way : Use) (bases : Bases) (e behind : Entity)
     → used_table way bases e behind ≡ (let rules = rules_of_used way bases e behind in if rules.0 then rules.1 else (true, WrongKind) ∷ [])
-uses-told (usage.AsBase l) bases e behind = refl
-uses-told usage.AsStructBase bases e behind = refl
-uses-told usage.AsType bases e behind = refl
-uses-told usage.AsElement bases e behind = refl
-uses-told usage.AsConstantType bases e behind = refl
-uses-told usage.AsDiscriminator bases e behind = refl
-uses-told usage.AsOperand bases e behind = refl
-uses-told usage.Raised bases e behind = refl
-uses-told usage.RaisedBySet bases e behind = refl
-uses-told usage.AsIdentified bases e behind = refl
-uses-told usage.AsPrefixed bases e behind = refl
+rules-told (usage.AsBase l) bases e behind = refl
+rules-told usage.AsStructBase bases e behind = refl
+rules-told usage.AsType bases e behind = refl
+rules-told usage.AsElement bases e behind = refl
+rules-told usage.AsConstantType bases e behind = refl
+rules-told usage.AsDiscriminator bases e behind = refl
+rules-told usage.AsOperand bases e behind = refl
+rules-told usage.Raised bases e behind = refl
+rules-told usage.RaisedBySet bases e behind = refl
+rules-told usage.AsIdentified bases e behind = refl
+rules-told usage.AsPrefixed bases e behind = refl
 
 -- what a base leaves by what was declared last
 base-left : (e behind : Entity) (w : Walk) (o : Option Entity)
@@ -176,20 +176,11 @@ base-left e behind w (Some s) = refl
 
 abbrev Behind : Use → Type 0
 Behind way = (w : Walk) (name : ScopedName) (found : Found) (behind : Entity) → used_after w way name found behind
-    ≡ walk_behind way found.entity behind (record w {
-      at = last_at w.at name + 1;
-      own = with_uses (folded name.first) found.reach w.cursor w.own;
-      found = w.found ++ found.entity.path ∷ [];
-    })
+    ≡ walk_behind way found.entity behind (introduced w name found)
 
-pub uses-left : (way : Use) → Behind way
+uses-left : (way : Use) → Behind way
 uses-left usage.AsStructBase w name found behind =
-    base-left found.entity behind
-    (record w {
-      at = last_at w.at name + 1;
-      own = with_uses (folded name.first) found.reach w.cursor w.own;
-      found = w.found ++ found.entity.path ∷ [];
-    }) w.last
+    base-left found.entity behind (introduced w name found) w.last
 uses-left (usage.AsBase l) w name found behind = refl
 uses-left usage.AsType w name found behind = refl
 uses-left usage.AsElement w name found behind = refl
@@ -200,6 +191,12 @@ uses-left usage.Raised w name found behind = refl
 uses-left usage.RaisedBySet w name found behind = refl
 uses-left usage.AsIdentified w name found behind = refl
 uses-left usage.AsPrefixed w name found behind = refl
+
+pub uses-told : (w : Walk) (way : Use) (name : ScopedName) (found : Found) (behind : Entity) → used_visit w way name found behind ≡ used_at w way name found behind
+uses-told w way name found behind = λ i. record {
+  faults = faults_by (last_at w.at name) (rules-told way w.bases found.entity behind i);
+  after = uses-left way w name found behind i;
+}
 
 -- ---- steps
 

@@ -12,7 +12,7 @@ use Rattle.idl_check.specs.told.Bodies.{array_of, told_innermost, with_array_mem
 use Rattle.idl_check.specs.told.Types.{looked_through}
 use Rattle.idl_check.specs.walk.AllFaults.{evaluation_faults, whole_visit}
 use Rattle.idl_check.specs.walk.Judging.{walked}
-use Rattle.idl_check.specs.walk.Walk.{Visit, Walk, declared_visit, evaluation_at, faulty_if, passed, quiet, spoken_of, spoken_visit, turns_at, unfound_visit, unions_without, unspoken_visit, used, used_visit, value_visit, visit, with_array}
+use Rattle.idl_check.specs.walk.Walk.{Visit, Walk, declared_visit, ended_array, evaluation_at, faulty_if, passed, quiet, scope_visit, spoken_of, spoken_visit, turns_at, unfound_visit, unions_without, unspoken_visit, used, used_visit, value_visit, visit, with_array}
 use Rattle.idl_check.specs.declared.ids.identifying.Ids.{Ids}
 use Rattle.idl_check.specs.declared.tables.standing.Standing.{Standing}
 use Rattle.idl_entity.specs.DataType.{plain_type}
@@ -41,7 +41,11 @@ use Rattle.idl_parts.specs.declared.part.Purpose.TheVariants as purpose
 use Rattle.idl_parts.specs.declared.part.TextPurpose.{TextPurpose}
 use Rattle.idl_parts.specs.declared.part.Use.{Use}
 use Rattle.idl_parts.specs.declared.part.Use.TheVariants.{AsDiscriminator, AsOperand}
-use Rattle.idl_plain.specs.Visited.{named_at, seen_at, spoken_at, standing_at, unfound, unfound_at, valued, visited}
+use Rattle.idl_plain.proofs.DeclaredLaws.{visit-told}
+use Rattle.idl_plain.proofs.TableLaws.{uses-told}
+use Rattle.idl_plain.specs.Declared.{declared_at}
+use Rattle.idl_plain.specs.Used.{used_at}
+use Rattle.idl_plain.specs.Visited.{array_left, named_at, scope_left, seen_at, spoken_at, standing_at, unfound, unfound_at, valued, visited}
 use Rattle.idl_scope.proofs.FactsLaws.{outcome-under}
 use Rattle.idl_scope.specs.Known.{known}
 use Rattle.idl_scope.specs.Lookup.{Lookup, bases_of, by_result, denoted, is_nothing, reached, under}
@@ -122,12 +126,82 @@ unfound-by AsOperand at w = refl
 unfound-by AsDiscriminator at w = refl
 unfound-by way at w = refl
 
-unfound-at : (w : Walk) (way : Use) (name : ScopedName) (fault : NameFault) → unfound_visit w way name fault ≡ unfound_at w way name fault
+pub unfound-at : (w : Walk) (way : Use) (name : ScopedName) (fault : NameFault) → unfound_visit w way name fault ≡ unfound_at w way name fault
 unfound-at w way name (At why part) = λ i. record {
   faults = fault_at (part_at w.at name part) (name_code why) ∷ [];
   after = unfound-by way (last_at w.at name + 1) w i;
 }
 unfound-at w way name Memory = refl
+
+module _ (w : Walk) where
+  abbrev ended_by : Option Scope → Walk
+  ended_by o = record w {
+    cursor = drop 1 w.cursor;
+    begun = w.begun ++ told_innermost w.clauses w.bodies;
+    written =
+        elim o [
+          | None ↦ w.written
+          | Some s ↦ record w.written { data_type = Some (plain_type (Named s.path)) }
+        ];
+    bodies = drop 1 w.bodies;
+  }
+
+  abbrev ends : Walk → Option Scope → Visit
+  ends after o = elim o [
+    | None ↦ quiet w
+    | Some s ↦
+        if kind_eq s.kind Union
+        then faulty_if (is_useless_default w.unions) code.UselessDefault w
+        (record after { unions = drop 1 w.unions })
+        else quiet after
+  ]
+
+  abbrev ended_with : Bool → Scope → Visit
+  ended_with is_union s = faulty_if (is_union && is_useless_default w.unions) code.UselessDefault w (record w {
+    cursor = drop 1 w.cursor;
+    begun = w.begun ++ told_innermost w.clauses w.bodies;
+    written = record w.written { data_type = Some (plain_type (Named s.path)) };
+    bodies = drop 1 w.bodies;
+    unions = if is_union then drop 1 w.unions else w.unions;
+  })
+
+  ended-with : (is_union : Bool) (s : Scope)
+      → (if is_union then faulty_if (is_useless_default w.unions) code.UselessDefault w (record (ended_by (Some s)) { unions = drop 1 w.unions }) else quiet (ended_by (Some s)))
+      ≡ ended_with is_union s
+  ended-with true s = refl
+  ended-with false s = refl
+
+  ends-by : (o : Option Scope) → ends (ended_by o) o ≡ elim o as (λ _. Visit) [ None ↦ quiet w | Some s ↦ ended_with (kind_eq s.kind Union) s ]
+  ends-by None = refl
+  ends-by (Some s) = ended-with (kind_eq s.kind Union) s
+
+  pub scope-told : scope_visit w ≡ scope_left w
+  scope-told = ends-by (first w.cursor)
+
+  abbrev array_ended : Option Entity → Walk
+  array_ended o = record w {
+    own = with_array w.values.lengths o w.own;
+    bodies = with_array_member w.values.lengths o w.bodies;
+    values = record w.values { lengths = [] };
+  }
+
+  abbrev array_from : Option Entity → Walk
+  array_from o =
+      let ended = record w { values = record w.values { lengths = [] } } in
+      elim o [
+        | None ↦ ended
+        | Some e ↦ let array = array_of w.values.lengths e in record ended {
+          own = with_addition w.own (Declares array);
+          bodies = with_innermost (with_array_type array) w.bodies;
+        }
+      ]
+
+  array-by : (o : Option Entity) → array_ended o ≡ array_from o
+  array-by None = refl
+  array-by (Some e) = refl
+
+  pub array-told : ended_array w ≡ array_left w
+  array-told = array-by w.last
 
 module _ (turns : ℕ) (answers : Key → Option Answer) where
   abbrev seen : Walk → Key → Option Answer
@@ -143,13 +217,14 @@ module _ (turns : ℕ) (answers : Key → Option Answer) where
     abbrev named_by : Result Found NameFault → Visit
     named_by r = elim r [
       | Err fault ↦ unfound_at w way name fault
-      | Ok found ↦ used_visit w way name found (outcome (looked_through (turns_at turns w) way found.entity) (seen w))
+      | Ok found ↦ used_at w way name found (outcome (looked_through (turns_at turns w) way found.entity) (seen w))
     ]
 
     result-is : (r : Result Found NameFault) → outcome (of_result r) answers ≡ named_by r
     result-is (Ok found) =
         outcome-and_then (under w.own (looked_through (turns_at turns w) way found.entity)) (λ behind. Done (used_visit w way name found behind)) answers
         ∙ ap (λ (behind : Entity). used_visit w way name found behind) (outcome-under w.own answers (looked_through (turns_at turns w) way found.entity))
+        ∙ uses-told w way name found (outcome (looked_through (turns_at turns w) way found.entity) (seen w))
     result-is (Err fault) = unfound-at w way name fault
 
     used-is : outcome (used turns way name w) answers ≡ named_at turns answers way name w
@@ -217,7 +292,7 @@ module _ (turns : ℕ) (answers : Key → Option Answer) where
     declared_from o = elim o [
       | None ↦ quiet (passed 1 w)
       | Some s ↦ let e = entity_of w.written way name s.path in
-          declared_visit w way s e (standing_at (turns_at turns w) (seen w) s e)
+          declared_at w way s e (standing_at (turns_at turns w) (seen w) s e)
     ]
 
     declared-by : (o : Option Scope) → outcome (declares o) answers ≡ declared_from o
@@ -226,6 +301,7 @@ module _ (turns : ℕ) (answers : Key → Option Answer) where
         let e = entity_of w.written way name s.path in
         outcome-and_then (under w.own (standing (turns_at turns w) s e)) (λ there. Done (declared_visit w way s e there)) answers
         ∙ ap (λ (there : Standing). declared_visit w way s e there) (outcome-under w.own answers (standing (turns_at turns w) s e) ∙ standing-is (turns_at turns w) (seen w) s e)
+        ∙ visit-told w way s e (standing_at (turns_at turns w) (seen w) s e)
 
   value-by : (way : Purpose) (w : Walk) (v : Evaluation) → (value_visit w way (first_of v)).after ≡ valued w way v
   value-by purpose.Bound w (Valued v) = refl
@@ -235,86 +311,19 @@ module _ (turns : ℕ) (answers : Key → Option Answer) where
   value-by way w (Faulty []) = refl
   value-by way w (Faulty (f ∷ fs)) = refl
 
-  module _ (w : Walk) where
-    abbrev ended_by : Option Scope → Walk
-    ended_by o = record w {
-      cursor = drop 1 w.cursor;
-      begun = w.begun ++ told_innermost w.clauses w.bodies;
-      written =
-          elim o [
-            | None ↦ w.written
-            | Some s ↦ record w.written { data_type = Some (plain_type (Named s.path)) }
-          ];
-      bodies = drop 1 w.bodies;
-    }
-
-    abbrev ends : Walk → Option Scope → Visit
-    ends after o = elim o [
-      | None ↦ quiet w
-      | Some s ↦
-          if kind_eq s.kind Union
-          then faulty_if (is_useless_default w.unions) code.UselessDefault w
-          (record after { unions = drop 1 w.unions })
-          else quiet after
-    ]
-
-    abbrev ended_with : Bool → Scope → Visit
-    ended_with is_union s = faulty_if (is_union && is_useless_default w.unions) code.UselessDefault w (record w {
-      cursor = drop 1 w.cursor;
-      begun = w.begun ++ told_innermost w.clauses w.bodies;
-      written = record w.written { data_type = Some (plain_type (Named s.path)) };
-      bodies = drop 1 w.bodies;
-      unions = if is_union then drop 1 w.unions else w.unions;
-    })
-
-    ended-with : (is_union : Bool) (s : Scope)
-        → (if is_union then faulty_if (is_useless_default w.unions) code.UselessDefault w (record (ended_by (Some s)) { unions = drop 1 w.unions }) else quiet (ended_by (Some s)))
-        ≡ ended_with is_union s
-    ended-with true s = refl
-    ended-with false s = refl
-
-    ends-by : (o : Option Scope) → ends (ended_by o) o ≡ elim o as (λ _. Visit) [ None ↦ quiet w | Some s ↦ ended_with (kind_eq s.kind Union) s ]
-    ends-by None = refl
-    ends-by (Some s) = ended-with (kind_eq s.kind Union) s
-
-    abbrev ended : Walk
-    ended = record w { values = record w.values { lengths = [] } }
-
-    abbrev array_ended : Option Entity → Walk
-    array_ended o = record w {
-      own = with_array w.values.lengths o w.own;
-      bodies = with_array_member w.values.lengths o w.bodies;
-      values = record w.values { lengths = [] };
-    }
-
-    abbrev array_from : Option Entity → Visit
-    array_from o = elim o [
-      | None ↦ quiet ended
-      | Some e ↦
-          let array = array_of w.values.lengths e in
-          quiet (record ended {
-            own = with_addition w.own (Declares array);
-            bodies = with_innermost (with_array_type array) w.bodies;
-          })
-    ]
-
-    array-by : (o : Option Entity) → quiet (array_ended o) ≡ array_from o
-    array-by None = refl
-    array-by (Some e) = refl
-
   pub whole-told : (site : Item) (w : Walk) → whole_visit turns answers site w ≡ visited turns answers site w
   unfolding visit
   whole-told (item.Declares way name) w = declared-by way name w (first w.cursor)
   whole-told (item.Uses way name) w = name-by way name w (purpose_of way)
   whole-told (item.ScopeBegins way name) w = refl
-  whole-told item.ScopeEnds w = ends-by w (first w.cursor)
+  whole-told item.ScopeEnds w = scope-told w
   whole-told item.ValueBegins w = refl
   whole-told (item.ValueEnds way e) w = λ i. record {
     faults = evaluation_faults w way (evaluation_at w way e);
     after = value-by way w (evaluation_at w way e) i;
   }
   whole-told (item.TypeEnds shape) w = refl
-  whole-told item.ArrayEnds w = array-by w w.last
+  whole-told item.ArrayEnds w = ap quiet (array-told w)
   whole-told (item.Enumerates names) w = refl
   whole-told (item.Identifies text) w = refl
   whole-told (item.Switches discrete) w = refl

@@ -1,10 +1,16 @@
 -- The types that are spelled by keywords and that constants may have: a line for each.
-use Rattle.std.specs.Prelude.{ℕ, Bool, true, false, List, [], ◌∷◌, codes}
+use Rattle.std.specs.Prelude.{ℕ, Bool, true, false, List, [], ◌∷◌, None, Option, Some, codes, if◌then◌else◌}
+use Rattle.std.specs.Option.{option_map, unwrap_or}
+use Rattle.idl_entity.specs.DataType.{plain_type, with_layer}
+use Rattle.idl_entity.specs.declared.data_type.DataType.{DataType}
 use Rattle.idl_entity.specs.declared.data_type.Element.{Element}
 use Rattle.idl_entity.specs.declared.data_type.Element.TheVariants.{Constants, Unvalued}
+use Rattle.idl_entity.specs.declared.data_type.Layer.TheVariants.{Sequence}
 use Rattle.idl_entity.specs.declared.unvalued.Unvalued.TheVariants as unvalued
 use Rattle.idl_lex.specs.declared.kinds.keyword.Keyword.{Keyword}
 use Rattle.idl_lex.specs.declared.kinds.keyword.Keyword.TheVariants as word
+use Rattle.idl_parts.specs.declared.part.Shape.{Shape}
+use Rattle.idl_parts.specs.declared.part.Shape.TheVariants as shape
 use Rattle.idl_tree.specs.Lexeme.{Lexemes, Word}
 use Rattle.idl_tree.specs.declared.declarations.data_type.BasicType.{BasicType}
 use Rattle.idl_tree.specs.declared.declarations.data_type.BasicType.TheVariants as basic
@@ -70,3 +76,14 @@ of_basics basic.Double = (Word word.Double ∷ [], Unvalued unvalued.Double)
 of_basics basic.LongDouble = (Word word.Long ∷ Word word.Double ∷ [], Unvalued unvalued.LongDouble)
 of_basics basic.Any = (Word word.Any ∷ [], Unvalued unvalued.Any)
 of_basics basic.Object = (Word word.Object ∷ [], Unvalued unvalued.Object)
+
+-- a type that is no name, where the last bound in it is this; a sequence is one of the type that
+-- was written last
+abbrev pub type_in : Shape → Option ℕ → Option DataType → Option DataType
+type_in (shape.Basic b) bound before = Some (plain_type (of_basics b).1)
+type_in (shape.Text is_wide is_bounded) bound before =
+    let most = if is_bounded then bound else None in
+    Some (plain_type (Constants (if is_wide then target.WideText most else target.Text most)))
+type_in (shape.Sequence is_bounded) bound before =
+    let most = if is_bounded then unwrap_or bound 0 else 0 in
+    option_map (with_layer (Sequence most)) before

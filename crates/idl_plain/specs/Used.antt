@@ -1,13 +1,13 @@
 -- Used names: a line for each use, with what the name may denote there, and what is wrong with it.
-use Rattle.std.specs.Prelude.{◌&&◌, ◌++◌, Bool, true, [], ◌∷◌, None, Some, is_none, is_some, length, not}
+use Rattle.std.specs.Prelude.{◌&&◌, ◌+◌, ◌++◌, Bool, true, [], ◌∷◌, None, Some, is_none, is_some, length, not, if◌then◌else◌}
 use Rattle.std.specs.List.{list_any}
-use Rattle.idl_check.specs.tables.Codes.{Table}
+use Rattle.idl_check.specs.tables.Codes.{Table, faults_by}
 use Rattle.idl_check.specs.tables.Rules.{is_another, is_incomplete, is_type}
-use Rattle.idl_check.specs.tables.Using.{Bases, with_base}
+use Rattle.idl_check.specs.tables.Using.{Bases, with_base, with_uses}
 use Rattle.idl_check.specs.told.Labels.{no_labels}
 use Rattle.idl_check.specs.told.Types.{constants_of, may_switch}
 use Rattle.idl_check.specs.told.Values.{with_operand}
-use Rattle.idl_check.specs.walk.Walk.{Walk}
+use Rattle.idl_check.specs.walk.Walk.{Visit, Walk}
 use Rattle.idl_entity.specs.DataType.{plain_type}
 use Rattle.idl_entity.specs.Kind.{kind_eq, stage_eq}
 use Rattle.idl_entity.specs.declared.data_type.Element.TheVariants.{Named}
@@ -17,8 +17,12 @@ use Rattle.idl_entity.specs.declared.kind.Stage.TheVariants.{Complete, Open}
 use Rattle.idl_env.specs.Facts.{with_addition}
 use Rattle.idl_env.specs.declared.additions.addition.Addition.TheVariants.{Declares}
 use Rattle.idl_fault.specs.declared.code.Code.TheVariants as code
+use Rattle.idl_lex.specs.kinds.Keywords.{folded}
 use Rattle.idl_parts.specs.declared.part.Use.{Use}
 use Rattle.idl_parts.specs.declared.part.Use.TheVariants as way
+use Rattle.idl_scope.specs.declared.found.Found.{Found}
+use Rattle.idl_tree.specs.NameParts.{last_at}
+use Rattle.idl_tree.specs.declared.name.ScopedName.{ScopedName}
 use Rattle.idl_value.specs.Equal.{path_eq}
 
 -- whether a name that is used so may denote this, and the rules then, by the bases before it, and by
@@ -50,6 +54,14 @@ rules_of_used way.Raised bases e behind = (kind_eq e.kind Exception, [])
 rules_of_used way.RaisedBySet bases e behind = (kind_eq e.kind Exception, [])
 rules_of_used other bases e behind = (true, [])
 
+-- a walk behind a name that denotes this, whose first part is introduced as far as its use goes
+abbrev pub introduced : Walk → ScopedName → Found → Walk
+introduced w name found = record w {
+  at = last_at w.at name + 1;
+  own = with_uses (folded name.first) found.reach w.cursor w.own;
+  found = w.found ++ found.entity.path ∷ [];
+}
+
 -- a walk behind the name of a type, which is now the one that was written last
 abbrev pub typed : Entity → Walk → Walk
 typed e w =
@@ -80,3 +92,13 @@ walk_behind way.RaisedBySet e behind w = record w {
   clauses = record w.clauses { raised_by_set = w.clauses.raised_by_set ++ e.path ∷ [] };
 }
 walk_behind other e behind w = w
+
+-- what comes of the use of a name that denotes this, behind which that stands through typedefs
+abbrev pub used_at : Walk → Use → ScopedName → Found → Entity → Visit
+used_at w way name found behind =
+    let rules = rules_of_used way w.bases found.entity behind in
+    let table = if rules.0 then rules.1 else (true, code.WrongKind) ∷ [] in
+    record {
+      faults = faults_by (last_at w.at name) table;
+      after = walk_behind way found.entity behind (introduced w name found);
+    }

@@ -1,18 +1,18 @@
 -- What comes of the sites of a unit over the answers before it. Nothing is asked on the way.
-use Rattle.std.specs.Prelude.{◌&&◌, ◌+◌, ◌++◌, [], ◌∷◌, Err, None, Ok, Option, Some, drop, fold, is_some, not, ℕ, if◌then◌else◌}
+use Rattle.std.specs.Prelude.{◌&&◌, ◌+◌, ◌++◌, [], ◌∷◌, Err, None, Ok, Option, Some, drop, fold, is_some, not, take, true, ℕ, if◌then◌else◌}
 use Rattle.std.specs.List.{list_any}
 use Rattle.std.specs.Option.{option_to_list}
 use Rattle.idl_check.specs.ids.About.{unnamed_faults}
 use Rattle.idl_check.specs.ids.Remarks.{is_bad_text, purpose_of, remark}
 use Rattle.idl_check.specs.tables.Declaring.{entity_of}
-use Rattle.idl_check.specs.tables.Rules.{has_id, is_default_again, is_useless_default, may_be_ahead}
+use Rattle.idl_check.specs.tables.Rules.{has_id, is_useless_default, may_be_ahead}
 use Rattle.idl_check.specs.tables.Using.{name_code}
-use Rattle.idl_check.specs.told.Bodies.{array_of, begun_body, told_innermost, with_array_type, with_body_label, with_innermost, with_text}
-use Rattle.idl_check.specs.told.Labels.{no_labels, with_default, with_label}
+use Rattle.idl_check.specs.told.Bodies.{array_of, told_innermost, with_array_type, with_body_label, with_innermost, with_text}
+use Rattle.idl_check.specs.told.Labels.{no_labels, with_label}
 use Rattle.idl_check.specs.told.Types.{looked_through, target_in, written_as}
-use Rattle.idl_check.specs.told.Values.{begun_at, number_of, with_operand}
+use Rattle.idl_check.specs.told.Values.{evaluation_for, number_of, with_operand}
 use Rattle.idl_check.specs.walk.AllFaults.{evaluation_faults}
-use Rattle.idl_check.specs.walk.Walk.{Visit, Walk, declared_visit, evaluation_at, faulty_if, passed, quiet, turns_at, used_visit, with_labels, with_scope}
+use Rattle.idl_check.specs.walk.Walk.{Visit, Walk, faulty_if, label_target, quiet, turns_at, with_labels, with_scope}
 use Rattle.idl_check.specs.declared.tables.standing.Standing.{Standing}
 use Rattle.idl_entity.specs.DataType.{plain_type}
 use Rattle.idl_entity.specs.Entity.{is_operation}
@@ -38,6 +38,8 @@ use Rattle.idl_parts.specs.declared.part.Purpose.TheVariants as purpose
 use Rattle.idl_parts.specs.declared.part.TextPurpose.{TextPurpose}
 use Rattle.idl_parts.specs.declared.part.Use.{Use}
 use Rattle.idl_parts.specs.declared.part.Use.TheVariants.{AsDiscriminator, AsOperand}
+use Rattle.idl_plain.specs.Declared.{declared_at}
+use Rattle.idl_plain.specs.Used.{used_at}
 use Rattle.idl_scope.specs.Known.{known}
 use Rattle.idl_scope.specs.Lookup.{denoted, is_nothing, reached}
 use Rattle.idl_scope.specs.Meaning.{bases_at, own_at}
@@ -83,6 +85,35 @@ unfound_at w way name (At why part) = record {
 }
 unfound_at w way name Memory = quiet w
 
+-- behind the end of a scope: it is a type from then on, and no `default` is where all values of a
+-- union's labels are
+abbrev pub scope_left : Walk → Visit
+scope_left w =
+    elim (first w.cursor) [
+      | None ↦ quiet w
+      | Some s ↦
+          let is_union = kind_eq s.kind Union in
+          faulty_if (is_union && is_useless_default w.unions) code.UselessDefault w (record w {
+            cursor = drop 1 w.cursor;
+            begun = w.begun ++ told_innermost w.clauses w.bodies;
+            written = record w.written { data_type = Some (plain_type (Named s.path)) };
+            bodies = drop 1 w.bodies;
+            unions = if is_union then drop 1 w.unions else w.unions;
+          })
+    ]
+
+-- behind the lengths of an array, which what was declared last is
+abbrev pub array_left : Walk → Walk
+array_left w =
+    let ended = record w { values = record w.values { lengths = [] } } in
+    elim w.last [
+      | None ↦ ended
+      | Some e ↦ let array = array_of w.values.lengths e in record ended {
+        own = with_addition w.own (Declares array);
+        bodies = with_innermost (with_array_type array) w.bodies;
+      }
+    ]
+
 -- what stands in a scope under the name of what is declared there, over these answers
 abbrev pub standing_at : ℕ → (Key → Option Answer) → Scope → Entity → Standing
 standing_at turns answers s e =
@@ -113,7 +144,7 @@ module _ (turns : ℕ) (answers : Key → Option Answer) where
   abbrev pub named_at : Use → ScopedName → Walk → Visit
   named_at way name w = elim (outcome (denoted (turns_at turns w) w.cursor name) (seen_at w)) [
     | Err fault ↦ unfound_at w way name fault
-    | Ok found ↦ used_visit w way name found
+    | Ok found ↦ used_at w way name found
         (outcome (looked_through (turns_at turns w) way found.entity) (seen_at w))
   ]
 
@@ -137,9 +168,9 @@ module _ (turns : ℕ) (answers : Key → Option Answer) where
   -- a site: all its faults, and how the walk goes on
   abbrev pub visited : Item → Walk → Visit
   visited (item.Declares way name) w = elim (first w.cursor) [
-    | None ↦ quiet (passed 1 w)
+    | None ↦ quiet (record w { at = w.at + 1 })
     | Some s ↦ let e = entity_of w.written way name s.path in
-        declared_visit w way s e (standing_at (turns_at turns w) (seen_at w) s e)
+        declared_at w way s e (standing_at (turns_at turns w) (seen_at w) s e)
   ]
   visited (item.Uses way name) w = elim (purpose_of way) [
     | None ↦ named_at way name w
@@ -147,38 +178,21 @@ module _ (turns : ℕ) (answers : Key → Option Answer) where
   ]
   visited (item.ScopeBegins way name) w = quiet (record w {
     cursor = with_scope way name w.cursor;
-    bodies = begun_body w.last w.written.data_type ∷ w.bodies;
+    bodies =
+        record { entity = w.last; data_type = w.written.data_type; members = []; labels = [] }
+        ∷ w.bodies;
   })
-  visited item.ScopeEnds w = elim (first w.cursor) [
-    | None ↦ quiet w
-    | Some s ↦
-        let is_union = kind_eq s.kind Union in
-        faulty_if (is_union && is_useless_default w.unions) code.UselessDefault w (record w {
-          cursor = drop 1 w.cursor;
-          begun = w.begun ++ told_innermost w.clauses w.bodies;
-          written = record w.written { data_type = Some (plain_type (Named s.path)) };
-          bodies = drop 1 w.bodies;
-          unions = if is_union then drop 1 w.unions else w.unions;
-        })
-  ]
-  visited item.ValueBegins w = quiet (record w { values = begun_at w.at w.values })
+  visited item.ScopeEnds w = scope_left w
+  visited item.ValueBegins w =
+      quiet (record w { values = record w.values { begin = Some w.at; operands = [] } })
   visited (item.ValueEnds way e) w =
-      let v = evaluation_at w way e in
+      let label = label_target w.unions in
+      let v = evaluation_for way w.written.constants label w.values.operands e in
       record { faults = evaluation_faults w way v; after = valued w way v }
   visited (item.TypeEnds shape) w =
       let t = written_as shape w.values.bound w.written.data_type in
       quiet (record w { written = record w.written { data_type = t; constants = target_in t } })
-  visited item.ArrayEnds w =
-      let ended = record w { values = record w.values { lengths = [] } } in
-      elim w.last [
-        | None ↦ quiet ended
-        | Some e ↦
-            let array = array_of w.values.lengths e in
-            quiet (record ended {
-              own = with_addition w.own (Declares array);
-              bodies = with_innermost (with_array_type array) w.bodies;
-            })
-      ]
+  visited item.ArrayEnds w = quiet (array_left w)
   visited (item.Enumerates names) w =
       quiet (record w { written = record w.written { enumerators = names.first ∷ names.rest } })
   visited (item.Identifies text) w = quiet (record w { text = joined text })
@@ -189,15 +203,16 @@ module _ (turns : ℕ) (answers : Key → Option Answer) where
         unions = no_labels (Some t) 0 ∷ w.unions;
       })
   visited item.Default w =
-      faulty_if (is_default_again w.unions) code.RepeatedLabel w
+      faulty_if (list_any (λ l. l.has_default) (take 1 w.unions)) code.RepeatedLabel w
       (record w {
-        unions = with_labels with_default w.unions;
+        unions = with_labels (λ l. record l { has_default = true }) w.unions;
         bodies = with_body_label None w.bodies;
       })
   visited item.GivesBack w = record { faults = fault_at w.at code.BadOneway ∷ []; after = w }
-  visited (item.Plain n) w = quiet (passed n w)
+  visited (item.Plain n) w = quiet (record w { at = w.at + n })
   visited (item.Says purpose text) w =
       faulty_if (is_bad_text purpose (joined text)) code.BadIdText w
-      (record (passed (item_length (item.Says purpose text)) w) {
+      (record w {
+        at = w.at + item_length (item.Says purpose text);
         clauses = with_text purpose text w.clauses;
       })

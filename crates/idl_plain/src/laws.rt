@@ -2,14 +2,15 @@
 //!
 //! Each function does nothing: it carries its laws as clauses, which hold of any values.
 
-ghost use Rattle.std.specs.Prelude.{◌≡◌, ◌↔◌, ℕ, ℤ, List, Option, None, Some, flat_map, fold, length, map, true, if◌then◌else◌};
+ghost use Rattle.std.specs.Prelude.{◌≡◌, ◌↔◌, ℕ, ℤ, List, Option, None, Some, filter, flat_map, fold, is_some, length, map, not, true, if◌then◌else◌};
 ghost use Rattle.std.specs.Map.{lookup};
+ghost use Rattle.std.specs.List.{list_any};
 ghost use Rattle.std.specs.Option.{option_or};
 ghost use Rattle.idl_check.specs.walk.Placing.{faulty_step, opened_kind};
 ghost use Rattle.idl_entity.specs.Kind.{kind_eq, stage_eq};
 ghost use Rattle.idl_entity.specs.declared.kind.Kind.{Kind};
 ghost use Rattle.idl_entity.specs.declared.kind.Stage.{Stage};
-ghost use Rattle.idl_env.specs.Facts.{UnitFacts, entity_in, entity_key, gathered, joined, key_of, operations_among, operations_of, over};
+ghost use Rattle.idl_env.specs.Facts.{UnitFacts, World, entity_in, entity_key, gathered, joined, key_of, more_inside, operations_among, operations_of, over, stops_of, with_additions};
 ghost use Rattle.idl_env.specs.Turns.{turns_among, turns_for};
 ghost use Rattle.idl_env.specs.declared.additions.addition.Addition.{Addition};
 ghost use Rattle.idl_env.specs.declared.additions.addition.Step.TheVariants.{Closes, OpensNameless, Stays};
@@ -85,9 +86,16 @@ pub fn additions()
         → over additions k before ≡ option_or (lookup (key_eq k) (map left_by additions)) before }
     ensures operations { (additions : List Addition) → operations_among additions
         ≡ flat_map operation_by additions }
+    ensures counted { (additions : List Addition) (w : World)
+        → with_additions additions w ≡ record w {
+          answers = λ k. over (filter (λ a. not (list_any
+              (λ k. is_some (entity_in (w.answers k))) (stops_of a))) additions) k (w.answers k);
+          inside = more_inside w.inside (operations_among additions);
+        } }
     ensures inherited { (answers : Key → Option Answer) (found bases : List (List (List ℕ)))
         → gathered answers found bases
-        ≡ fold (λ paths b. joined paths (operations_of (entity_in (answers (entity_key b))))) found bases }
+        ≡ fold (λ found b. joined found (operations_of (entity_in (answers (entity_key b)))))
+        found bases }
 {}
 
 /// An answer tells a file's lines, or the tokens of a macro's body, and an item an event, in one form alone.

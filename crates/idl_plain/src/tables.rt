@@ -1,13 +1,11 @@
 //! The laws that a table has what several definitions say.
 
-ghost use Rattle.std.specs.Prelude.{◌≡◌, ◌↔◌, ◌∷◌, ◌++◌, ◌+◌, ◌^◌, ◌&&◌, [], ℕ, Bool, Contains, List, None, Option, Some, flat_map, is_some, map, nat_eq, nat_le, nat_lt, take, true, if◌then◌else◌};
+ghost use Rattle.std.specs.Prelude.{◌≡◌, ◌↔◌, ◌∷◌, ◌++◌, ◌+◌, ◌-◌, ◌^◌, ◌&&◌, [], ℕ, ℤ, Contains, Err, List, None, Ok, Some, flat_map, int_le, is_some, map, max, nat_eq, nat_le, nat_lt, neg_ℤ, pos, take, if◌then◌else◌};
 ghost use Rattle.std.specs.List.{enumerate_from, prefix_len};
 ghost use Rattle.std.specs.Map.{lookup};
-ghost use Rattle.idl_check.specs.tables.Codes.{Table};
-ghost use Rattle.idl_check.specs.tables.Declaring.{Written, declared_table, entity_of};
-ghost use Rattle.idl_check.specs.tables.Using.{Bases, used_table, with_uses};
-ghost use Rattle.idl_check.specs.walk.Walk.{Walk, used_after, with_scope};
-ghost use Rattle.idl_check.specs.told.Types.{element_of};
+ghost use Rattle.idl_check.specs.tables.Declaring.{Written, entity_of};
+ghost use Rattle.idl_check.specs.told.Bodies.{Body, with_innermost, with_member};
+ghost use Rattle.idl_check.specs.walk.Walk.{Walk, declared_visit, used_visit, with_scope};
 ghost use Rattle.idl_check.specs.declared.tables.standing.Standing.{Standing};
 ghost use Rattle.idl_entity.specs.declared.entity.Entity.{Entity};
 ghost use Rattle.idl_env.specs.Facts.{World, after_step};
@@ -18,9 +16,7 @@ ghost use Rattle.idl_event.specs.declared.told.allowance.Allowance.{Allowance};
 ghost use Rattle.idl_event.specs.declared.told.event.Item.{Item};
 ghost use Rattle.idl_fault.specs.Code.{number_of};
 ghost use Rattle.idl_fault.specs.declared.code.Code.{Code};
-ghost use Rattle.idl_fault.specs.declared.code.Code.TheVariants.{WrongKind};
 ghost use Rattle.idl_lex.specs.bytes.Byte.{is_digit_of};
-ghost use Rattle.idl_lex.specs.kinds.Keywords.{folded};
 ghost use Rattle.idl_lex.specs.kinds.Literal.{by_number, simple_escape};
 ghost use Rattle.idl_lex.specs.kinds.Marks.{marks as all_marks};
 ghost use Rattle.idl_lex.specs.kinds.Number.{are_digits, based, integer_value, is_floating, number, number_kind};
@@ -32,7 +28,7 @@ ghost use Rattle.idl_parts.specs.declared.part.Declaration.{Declaration};
 ghost use Rattle.idl_parts.specs.declared.part.Use.{Use};
 ghost use Rattle.idl_plain.specs.Allowance.{left_behind};
 ghost use Rattle.idl_plain.specs.Codes.{rows};
-ghost use Rattle.idl_plain.specs.Declared.{declared, rules_of_declared};
+ghost use Rattle.idl_plain.specs.Declared.{declared, declared_at, member_in};
 ghost use Rattle.idl_plain.specs.Expression.{read};
 ghost use Rattle.idl_plain.specs.Marks.{letters, preprocessing, punctuation};
 ghost use Rattle.idl_plain.specs.Operators.{before, between};
@@ -40,11 +36,10 @@ ghost use Rattle.idl_plain.specs.Ranks.{ranked_parts, ranked_term};
 ghost use Rattle.idl_plain.specs.Steps.{stepped};
 ghost use Rattle.idl_plain.specs.Tokens.{codes_behind};
 ghost use Rattle.idl_plain.specs.Types.{of_basics, of_integers, of_types};
-ghost use Rattle.idl_plain.specs.Used.{rules_of_used, walk_behind};
+ghost use Rattle.idl_plain.specs.Used.{used_at};
 ghost use Rattle.idl_repo.specs.TypeCode.{integer_word};
 ghost use Rattle.idl_scope.specs.declared.found.Found.{Found};
 ghost use Rattle.idl_tree.specs.DataType.{spell_basic, spell_discrete};
-ghost use Rattle.idl_tree.specs.NameParts.{last_at};
 ghost use Rattle.idl_tree.specs.declared.declarations.data_type.BasicType.{BasicType};
 ghost use Rattle.idl_tree.specs.declared.declarations.data_type.DiscreteType.{DiscreteType};
 ghost use Rattle.idl_tree.specs.declared.expression.Expression.{Expression};
@@ -54,10 +49,12 @@ ghost use Rattle.idl_unit.specs.TokenRules.{token_codes};
 ghost use Rattle.idl_value.specs.ConstantType.{target_of};
 ghost use Rattle.idl_value.specs.Evaluation.{Operands, combined, read_term, signed_value};
 ghost use Rattle.idl_value.specs.Term.{Term, expression_term};
-ghost use Rattle.idl_value.specs.integers.Integer.{is_signed, width};
+ghost use Rattle.idl_value.specs.Operate.{in_parts};
+ghost use Rattle.idl_value.specs.integers.Integer.{holds, is_signed, width};
 ghost use Rattle.idl_value.specs.declared.constant_type.ConstantType.{ConstantType};
 ghost use Rattle.idl_value.specs.declared.integer.IntegerKind.{IntegerKind};
 ghost use Rattle.idl_value.specs.declared.operator.BinaryOperator.{BinaryOperator};
+ghost use Rattle.idl_value.specs.declared.outcome.ValueCode.TheVariants.{OutOfRange};
 ghost use Rattle.idl_value.specs.declared.value.Value.{Value};
 ghost use Rattle.idl_value.specs.declared.walk.Passed.{Passed};
 
@@ -69,7 +66,6 @@ pub fn types()
     ensures spelled { (t : DiscreteType) → spell_discrete t ≡ (of_types t).0 }
     ensures kinds { (t : DiscreteType) → target_of t ≡ (of_types t).1 }
     ensures basics { (t : BasicType) → spell_basic t ≡ (of_basics t).0 }
-    ensures elements { (t : BasicType) → element_of t ≡ (of_basics t).1 }
 {}
 
 /// Of each form of declaration one line tells what it declares; a scope begins as one that is declared so. And one line tells each rule.
@@ -81,8 +77,10 @@ pub fn declarations()
         → (with_scope way name [] ≡ []) × (with_scope way name (s ∷ scopes)
         ≡ (let e = declared w (name ∷ s.path) way in
         record { path = e.path; kind = e.kind; body = 1 } ∷ s ∷ scopes)) }
-    ensures rules { (s : Scope) (standing : Standing) (e : Entity)
-        → declared_table s standing e ≡ rules_of_declared s standing e }
+    ensures visits { (w : Walk) (way : Declaration) (s : Scope) (e : Entity) (standing : Standing)
+        → declared_visit w way s e standing ≡ declared_at w way s e standing }
+    ensures members { (way : Declaration) (e : Entity) (bodies : List Body)
+        → with_member way e bodies ≡ with_innermost (member_in way e) bodies }
 {}
 
 /// Of each change of the open scopes, of the files entered, or of the prefix one line tells what it does.
@@ -92,15 +90,21 @@ pub fn steps()
 
 /// Of each use of a name one line tells what it may denote, and the rules then; and one what it leaves behind.
 pub fn uses()
-    ensures rules { (way : Use) (bases : Bases) (e behind : Entity) → used_table way bases e behind
-        ≡ (let rules = rules_of_used way bases e behind in
-        if rules.0 then rules.1 else (true, WrongKind) ∷ []) }
-    ensures behind { (w : Walk) (way : Use) (name : ScopedName) (found : Found) (behind : Entity)
-        → used_after w way name found behind ≡ walk_behind way found.entity behind (record w {
-          at = last_at w.at name + 1;
-          own = with_uses (folded name.first) found.reach w.cursor w.own;
-          found = w.found ++ found.entity.path ∷ [];
-        }) }
+    ensures { (w : Walk) (way : Use) (name : ScopedName) (found : Found) (behind : Entity)
+        → used_visit w way name found behind ≡ used_at w way name found behind }
+{}
+
+/// The values of an integer type are those of its bits, with a sign or without; and each part of one is within those of 32 bits at least,
+/// of both.
+pub fn ranges()
+    ensures values { (k : IntegerKind) (z : ℤ) → holds k z ≡ (
+        let half = 2 ^ (width k - 1) in
+        if is_signed k then int_le (neg_ℤ (pos half)) z && int_le z (pos (half - 1))
+        else int_le (pos 0) z && int_le z (pos (2 ^ width k - 1))) }
+    ensures parts { (k : IntegerKind) (z : ℤ) → in_parts k z ≡ (
+        let bits = max 32 (width k) in
+        if int_le (neg_ℤ (pos (2 ^ (bits - 1)))) z && int_le z (pos (2 ^ bits - 1)) then Ok z
+        else Err OutOfRange) }
 {}
 
 /// An operator has a value at whole numbers alone, for an integer type.

@@ -1,4 +1,4 @@
-use Rattle.idl_plain.proofs.DirectiveLaws.{entered-told, found-told, operands-told, pragmas-told}
+use Rattle.idl_plain.proofs.DirectiveLaws.{found-told, operands-told, pragmas-told}
 use Rattle.idl_plain.proofs.directives.files.Goals as goal
 
 pub returns-clause-operands : goal.returns-clause-operands
@@ -6,9 +6,6 @@ returns-clause-operands c = operands-told
 
 pub returns-clause-found : goal.returns-clause-found
 returns-clause-found c = found-told
-
-pub returns-clause-entered : goal.returns-clause-entered
-returns-clause-entered c = entered-told
 
 pub returns-clause-pragmas : goal.returns-clause-pragmas
 returns-clause-pragmas c = pragmas-told

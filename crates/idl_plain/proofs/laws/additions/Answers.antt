@@ -1,3 +1,4 @@
+use Rattle.std.proofs.Common.{refl}
 use Rattle.idl_plain.proofs.AdditionLaws.{answers-over, inherited-told, keys-told, operations-told, turns-needed, turns-told}
 use Rattle.idl_plain.proofs.laws.additions.Goals as goal
 
@@ -18,3 +19,6 @@ returns-clause-operations c = operations-told
 
 pub returns-clause-inherited : goal.returns-clause-inherited
 returns-clause-inherited c = inherited-told
+
+pub returns-clause-counted : goal.returns-clause-counted
+returns-clause-counted c = λ additions w. refl

@@ -1,5 +1,5 @@
 use Rattle.idl_plain.proofs.PairLaws.{pairs-told}
-use Rattle.idl_plain.proofs.SpellingLaws.{good-told, literals-told, lone-told, others-told, words-told}
+use Rattle.idl_plain.proofs.SpellingLaws.{bodies-told, floats-told, good-told, literals-told, lone-told, others-told, words-told, zeros-told}
 use Rattle.idl_plain.proofs.lexemes.spellings.Goals as goal
 
 pub returns-clause-words : goal.returns-clause-words
@@ -19,3 +19,12 @@ returns-clause-lone c = lone-told
 
 pub returns-clause-pairs : goal.returns-clause-pairs
 returns-clause-pairs c = pairs-told
+
+pub returns-clause-bodies : goal.returns-clause-bodies
+returns-clause-bodies c = bodies-told
+
+pub returns-clause-zeros : goal.returns-clause-zeros
+returns-clause-zeros c = zeros-told
+
+pub returns-clause-floats : goal.returns-clause-floats
+returns-clause-floats c = floats-told

@@ -1,4 +1,4 @@
-use Rattle.idl_plain.proofs.OutwardLaws.{arrays-told, layers-told, names-told, slashes-told, texts-told, words-told}
+use Rattle.idl_plain.proofs.OutwardLaws.{arrays-told, names-told, slashes-told, texts-told, words-told}
 use Rattle.idl_plain.proofs.paths.outward.Goals as goal
 
 pub returns-clause-slashes : goal.returns-clause-slashes
@@ -12,9 +12,6 @@ returns-clause-words c = words-told
 
 pub returns-clause-arrays : goal.returns-clause-arrays
 returns-clause-arrays c = arrays-told
-
-pub returns-clause-layers : goal.returns-clause-layers
-returns-clause-layers c = layers-told
 
 pub returns-clause-names : goal.returns-clause-names
 returns-clause-names c = names-told

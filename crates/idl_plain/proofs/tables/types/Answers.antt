@@ -1,4 +1,4 @@
-use Rattle.idl_plain.proofs.TableLaws.{basics-spelled, basics-told, integers-told, types-spelled, types-told}
+use Rattle.idl_plain.proofs.TableLaws.{basics-spelled, integers-told, types-spelled, types-told}
 use Rattle.idl_plain.proofs.tables.types.Goals as goal
 
 pub returns-clause-words : goal.returns-clause-words
@@ -18,6 +18,3 @@ returns-clause-kinds c = types-told
 
 pub returns-clause-basics : goal.returns-clause-basics
 returns-clause-basics c = basics-spelled
-
-pub returns-clause-elements : goal.returns-clause-elements
-returns-clause-elements c = basics-told
