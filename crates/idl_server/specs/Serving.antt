@@ -82,7 +82,7 @@ pub record AreServed (told : List ℕ → Holding) (old : Server)
   pub text : List ℕ
   pub taken : TakesMessages bodies stream left
   pub served : Serves told old bodies said new
-  pub on_time : left ≡ Some [] → new.late ≡ None
+  pub on_time : left ≡ Some [] → new.late.keys ≡ []
   pub texts : AreWritten said text
   pub written : after ≡ append before text
 

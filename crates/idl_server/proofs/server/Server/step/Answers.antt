@@ -75,9 +75,6 @@ returns-in_default-2-clause-answered g c =
 
 -- ---- a change of it
 
-pub put_off-requires-clause-alone : goal.put_off-requires-clause-alone
-put_off-requires-clause-alone g c = inr (some_of c.in_ok-name.field-0 (c.in-Some-2.name, c.in-Some-2.params) _ c.in-Some-2.is c.in_ok-name.ensures).3
-
 pub returns-clause-settled : goal.returns-clause-settled
 returns-clause-settled g c = λ is. c.in_ok-catch_up-3.ensures.settled (c.in_ok-put_off.ensures.settled (g.L.PathLoader.told_of c.args.loader.now) is)
 
