@@ -84,6 +84,7 @@ impl Server {
         let session = Session::new(alloc);
         let documents = IndexMap::new(alloc);
         let tried = IndexSet::new(alloc);
+        let late = IndexSet::new(alloc);
         let workspace = Workspace {
             encoding: Encoding::Utf16,
             folders: Folders::new(alloc),
@@ -100,7 +101,7 @@ impl Server {
             phase: Phase::Waiting,
             workspace,
             told: PublishedDiagnostics::new(alloc),
-            late: IndexSet::new(alloc),
+            late,
         }
     }
 
