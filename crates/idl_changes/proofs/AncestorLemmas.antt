@@ -146,7 +146,7 @@ or-second true b h = refl
 or-second false b h = h
 
 module _ (L : List RowTree) where
-  reached-either : (z i n : ℕ) → is_reached L (suc z) i n ≡ true → (is_reached L z i n ≡ true) ⊎ ((is_reached L z i z ≡ true) × (is_reached L z z n ≡ true))
+  pub reached-either : (z i n : ℕ) → is_reached L (suc z) i n ≡ true → (is_reached L z i n ≡ true) ⊎ ((is_reached L z i z ≡ true) × (is_reached L z z n ≡ true))
   reached-either z i n is = or-either (is_reached L z i n) (is_reached L z i z) (is_reached L z z n) is
 
   reached-more : (z i n : ℕ) → is_reached L z i n ≡ true → is_reached L (suc z) i n ≡ true

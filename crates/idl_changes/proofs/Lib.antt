@@ -10,6 +10,7 @@ mod NothingLemmas
 mod NameLemmas
 mod InheritLemmas
 mod AncestorLemmas
+mod ChainLemmas
 mod OfferLemmas
 mod JoinedLemmas
 mod WeightLemmas

@@ -1,11 +1,17 @@
--- What the changes from one listing to another say of the two, by their weights.
-use Rattle.std.specs.Prelude.{◌≡◌, ℕ, Bool, false, true, List, All, Some, slice_get}
+-- What is inherited, and what the changes from one listing to another say of the two, by their
+-- weights.
+use Rattle.std.specs.Prelude.{◌≡◌, ℕ, Bool, false, true, List, [], ◌∷◌, All, Contains, Some, slice_get}
 use Rattle.idl_changes.specs.Listing.{is_called, is_interface, name_at}
-use Rattle.idl_changes.specs.Offered.{is_offered, offers}
+use Rattle.idl_changes.specs.Offered.{base_places, is_offered, offers}
 use Rattle.idl_changes.specs.Partners.{joined}
 use Rattle.idl_changes.specs.declared.change.Change.{Change}
 use Rattle.idl_changes.specs.declared.rows.Weights.{Weights}
 use Rattle.idl_repo.specs.declared.details.row_tree.RowTree.{RowTree}
+
+-- a chain of bases leads from one place to another by way of these
+abbrev pub IsChain : List RowTree → ℕ → (by_way : List ℕ) → ℕ → Type 0
+IsChain L i [] n = Contains (base_places L i) n
+IsChain L i (m ∷ ms) n = Contains (base_places L i) m × IsChain L m ms n
 
 -- no change has a weight
 abbrev pub NoneHas : (Weights → Bool) → List Change → Type 0

@@ -102,8 +102,8 @@ pub record Speaks (old new : List RowTree) : Type 0 where
       → is_local e ≡ false → by_id old new i e ≡ Some k → IsTaken old new i k
 
 -- what IDL asks of declarations: a name is declared before it is used, so an alias names only
--- aliases that stand before it; what an interface inherits that isn't local isn't local; and nothing
--- that can be called on an interface hides anything
+-- aliases that stand before it; what an interface inherits that isn't local isn't local; and
+-- nothing that can be called on an interface hides anything
 pub record IsDeclared (L : List RowTree) : Type 0 where
   pub aliases : (i j : ℕ) (t u : LayeredType) → alias_at L i ≡ Some t
       → named_by L t.element ≡ Some j → alias_at L j ≡ Some u → j < i

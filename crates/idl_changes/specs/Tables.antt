@@ -32,11 +32,14 @@ abbrev pub AreLabelled : List (List ℕ) → List CaseTree → List (NumberedTex
 AreLabelled names cases places = (label : NumberedText)
     → lookup (numbered_eq label) places ≡ position (is_labelled names label) cases
 
+-- what a table has for a text with a number
+abbrev pub found_at : List (NumberedText × ℕ) → (text : List ℕ) → (number : ℕ) → Option ℕ
+found_at table text number = lookup (numbered_eq (record { text = text; number = number })) table
+
 -- the place of the entry of each id that has so many before it
 abbrev pub AreIds : List RowTree → List (NumberedText × ℕ) → Type 0
 AreIds L ids = (id : List ℕ) (n : ℕ)
-    → lookup (numbered_eq (record { text = id; number = n })) ids
-    ≡ slice_get (places_where (has_id id) L) n
+    → found_at ids id n ≡ slice_get (places_where (has_id id) L) n
 
 -- how many of each id there are
 abbrev pub AreCounts : List RowTree → List (List ℕ × ℕ) → Type 0
@@ -45,8 +48,7 @@ AreCounts L counts = (id : List ℕ)
 
 -- what is offered under each name, by the interface's place
 abbrev pub AreOffers : List RowTree → List (NumberedText × ℕ) → Type 0
-AreOffers L offers = (i : ℕ) (name : List ℕ)
-    → lookup (numbered_eq (record { text = name; number = i })) offers ≡ offered L i name
+AreOffers L offers = (i : ℕ) (name : List ℕ) → found_at offers name i ≡ offered L i name
 
 -- how many places of a listing aren't among these
 abbrev pub count_besides : List RowTree → List ℕ → ℕ

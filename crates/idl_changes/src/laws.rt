@@ -1,8 +1,9 @@
-//! What it means that no change has a weight.
+//! What interfaces inherit, and what it means that no change has a weight.
 
-ghost use Rattle.std.specs.Prelude.{◌≡◌, [], List};
+ghost use Rattle.std.specs.Prelude.{◌≡◌, ◌↔◌, [], ℕ, Contains, List};
 ghost use Rattle.idl_changes.specs.Changes.{changes};
-ghost use Rattle.idl_changes.specs.Laws.{Finds, NoneHas, Serves};
+ghost use Rattle.idl_changes.specs.Laws.{Finds, IsChain, NoneHas, Serves};
+ghost use Rattle.idl_changes.specs.Offered.{ancestors};
 ghost use Rattle.idl_changes.specs.Speaks.{IsDeclared, Speaks};
 ghost use Rattle.idl_repo.specs.declared.details.row_tree.RowTree.{RowTree};
 
@@ -30,4 +31,10 @@ pub fn nothing_for_clients()
 /// From a listing to itself there is no change. This does nothing: it carries the law.
 pub fn nothing_changes()
     ensures { (trees : List RowTree) → changes trees trees ≡ [] }
+{}
+
+/// An entry inherits the interfaces to which a chain of bases leads, and no others. This does nothing: it carries the law.
+pub fn inherited_by_chains()
+    ensures { (trees : List RowTree) (i n : ℕ) → Contains (ancestors trees i) n
+        ↔ ((by_way : List ℕ) × IsChain trees i by_way n) }
 {}

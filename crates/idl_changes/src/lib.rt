@@ -6,7 +6,7 @@
 //! `sides.rt` say which entries belong together: by ids, and what is called by names. `rows.rt` has the table of what counts for
 //! whom. `parts.rt`, `types.rt`, `lists.rt`, `sets.rt`, `unions.rt` and `interfaces.rt` compare parts of entries, `details.rt` and
 //! `entries.rt` whole ones. `text.rt` writes rows, and `chosen.rt` reads which weights a text
-//! names. Laws say what it means that no change has a weight.
+//! names. Laws say what is inherited, and what it means that no change has a weight.
 #![tactic(auto)]
 
 mod change;
@@ -36,6 +36,9 @@ mod unions;
 
 pub use change::{Change, Difference, Turn};
 pub use comparison::changes;
-pub use laws::{nothing_changes, nothing_for_clients, nothing_for_servants, nothing_on_the_wire};
+pub use laws::{
+    inherited_by_chains, nothing_changes, nothing_for_clients, nothing_for_servants,
+    nothing_on_the_wire,
+};
 pub use rows::Weights;
 pub use text::{entry_of, push_change, weight_names};

@@ -8,7 +8,7 @@ ghost use Rattle.std.specs.Str.{bytes_eq};
 ghost use Rattle.idl_changes.specs.Keys.{numbered_eq};
 ghost use Rattle.idl_changes.specs.Listing.{interface_of, is_called, name_at};
 ghost use Rattle.idl_changes.specs.Offered.{ancestors, base_places, called_in, last_first};
-ghost use Rattle.idl_changes.specs.Tables.{AreOffers, count_besides, each};
+ghost use Rattle.idl_changes.specs.Tables.{AreOffers, count_besides, each, found_at};
 ghost use Rattle.idl_changes.specs.declared.keys.NumberedText.{NumberedText};
 
 use crate::keys::NumberedText;
@@ -192,9 +192,8 @@ fn offer_all(
     offers: &mut Map<NumberedText, usize>,
 ) -> Result<(), AllocError>
     requires { All (λ n. n < length listing.now) called.now }
-    ensures { OnOk result ((i : ℕ) (name : List ℕ)
-        → lookup (numbered_eq (record { text = name; number = i })) offers.new
-        ≡ option_or (lookup (numbered_eq (record { text = name; number = i })) offers.old)
+    ensures { OnOk result ((i : ℕ) (name : List ℕ) → found_at offers.new name i
+        ≡ option_or (found_at offers.old name i)
         (if nat_eq i interface
         then find (λ n. bytes_eq name (name_at listing.now n)) called.now
         else None)) }
@@ -213,9 +212,8 @@ fn offer_at(
     offers: &mut Map<NumberedText, usize>,
 ) -> Result<(), AllocError>
     requires { place < length listing.now }
-    ensures { OnOk result ((i : ℕ) (name : List ℕ)
-        → lookup (numbered_eq (record { text = name; number = i })) offers.new
-        ≡ option_or (lookup (numbered_eq (record { text = name; number = i })) offers.old)
+    ensures { OnOk result ((i : ℕ) (name : List ℕ) → found_at offers.new name i
+        ≡ option_or (found_at offers.old name i)
         (if bytes_eq name (name_at listing.now place) && nat_eq i interface
         then Some place
         else None)) }

@@ -1,5 +1,5 @@
--- What words ask for of files: the options that a program has for that, and what is found of them by
--- clap's `matches_of`.
+-- What words ask for of files: the options that a program has for that, and what is found of them
+-- by clap's `matches_of`.
 use Rattle.std.specs.Prelude.{◌≡◌, ℕ, List, [], ◌∷◌, Some, Bool, codes, map, nat_lt, unwrap_or}
 use Rattle.clap.specs.Words.{App, Row, Rule, Text, all_of, count_of, new_rule, with_rule}
 use Rattle.clap.specs.declared.builder.action.ArgAction.TheVariants.{Append, Count}

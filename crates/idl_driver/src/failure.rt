@@ -83,8 +83,8 @@ impl<'a> ProgramFailure<'a> {
     #[inline(never)]
     pub fn tell<K: Sink>(&self, program: &[u8], errors: &mut K) -> Result<(), WriteFailed>
         requires counts { K.failures errors.old < 2 ^ 64 - 1 }
-        ensures told { OnOk result
-            (K.written errors.new ≡ append (K.written errors.old) (message_of program.now self.now)) }
+        ensures told { OnOk result (K.written errors.new
+            ≡ append (K.written errors.old) (message_of program.now self.now)) }
         ensures err { OnErr result (K.failures errors.new ≡ K.failures errors.old + 1) }
     {
         match self {

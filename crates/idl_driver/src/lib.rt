@@ -26,4 +26,5 @@ pub use idl_sources;
 pub use limit::Limit;
 pub use loading::SoundRoots;
 pub use options::{Options, options_of, values_of, with_options};
+pub use preparing::name_at;
 pub use words::{ParsedWords, WordsFault, parse_words};

@@ -217,8 +217,8 @@ fn add_word<'a>(
     put_root(roots, name)
 }
 
-// The name that a word leads to.
-fn name_at(word: &[u8]) -> Option<Name>
+/// The name that a word leads to from the directory that the program runs in. Without one it leads to no file.
+pub fn name_at(word: &[u8]) -> Option<Name>
     ensures { result ≡ joined_path (codes ".") word.now }
 {
     match Directory::new(b".") {

@@ -14,8 +14,8 @@ use Rattle.idl_json.specs.Text.{text_json}
 use Rattle.idl_json.specs.declared.diagnostic.Diagnostic.{Diagnostic}
 use Rattle.idl_json.specs.declared.diagnostic.SecondPlace.{SecondPlace}
 
--- a second place of what is found, why it is told, in words, how many bytes of its line are before its
--- token, if that is known, and how many more were found than are told
+-- a second place of what is found, why it is told, in words, how many bytes of its line are before
+-- its token, if that is known, and how many more were found than are told
 pub record Second : Type 0 where
   pub reason : List ℕ
   pub place : Place

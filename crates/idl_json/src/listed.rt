@@ -56,7 +56,8 @@ fn put_place(object: &mut Object, declared: Option<NamePlace<'_>>) -> Result<(),
 // Puts in where a name is declared.
 fn put_name(object: &mut Object, name: NamePlace<'_>) -> Result<(), AllocError>
     ensures { OnOk result (members_view object.new.members.entries
-        ≡ with_fields (members_view object.old.members.entries) (name_fields (place_of name.entry))) }
+        ≡ with_fields (members_view object.old.members.entries)
+        (name_fields (place_of name.entry))) }
 {
     object.put_text("file", name.place.file.as_bytes())?;
     object.put("line", Value::from(name.place.line))?;

@@ -30,7 +30,6 @@ use std::marker::Model;
 ///
 /// Who compiles a root once, after all edits, needs no session: of a root nothing is kept here. An edit is refused as that of a
 /// session is, and then nothing has changed.
-#[derive(Drop)]
 pub struct Sources {
     memory: Memory,
     bank: SessionBank,
@@ -48,6 +47,15 @@ impl Model for Sources {
     ghost view = { λ sources. sources.bank };
 
     ghost invariant = { λ sources. IsWellFormed (rootless sources.bank) };
+}
+
+impl Drop for Sources {
+    fn drop(self) {
+        let Sources {
+            memory: _memory,
+            bank: _bank,
+        } = self;
+    }
 }
 
 impl Sources {

@@ -160,8 +160,8 @@ pub record AreCompared (is_json : Bool) (fails : Weights) (old new : Version)
   pub output : after.output ≡ append before.output (shown_between fails old new is_json)
   pub ending : status ≡ ending_of fails old new
 
--- programs that are built from two versions speak with each other, if these are declared as IDL asks
--- for
+-- programs that are built from two versions speak with each other, if these are declared as IDL
+-- asks for
 abbrev pub DoSpeak : Version → Version → Type 0
 DoSpeak old new =
     IsDeclared (trees_of (listed_in old)) → IsDeclared (trees_of (listed_in new))

@@ -253,8 +253,8 @@ NamesNone words = (faults_in words ≡ [])
 abbrev pub has_versions : List Row → Bool
 has_versions rows = is_some (below_in rows) || nat_eq (length (files_in rows)) 2
 
--- `--fail-on` has a word that is no weight, or `--format` one that is no format, or there aren't two
--- versions
+-- `--fail-on` has a word that is no weight, or `--format` one that is no format, or there aren't
+-- two versions
 abbrev pub AreNoDiff : List Row → Type 0
 AreNoDiff rows =
     (fails_in rows ≡ None) ⊎ ((json_in rows ≡ None) ⊎ (has_versions rows ≡ false))

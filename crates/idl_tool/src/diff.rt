@@ -266,8 +266,9 @@ fn push_line(
     change: &Change,
 ) -> Result<(), AllocError>
     requires { AreSides sides }
-    ensures { OnOk result (text.new.items ≡ text.old.items ++ told_line diff.now.is_json
-        diff.now.fails (map row_of sides.entry.old.now) (map row_of sides.entry.new.now) change.now) }
+    ensures { OnOk result (text.new.items ≡ text.old.items
+        ++ told_line diff.now.is_json diff.now.fails (map row_of sides.entry.old.now)
+        (map row_of sides.entry.new.now) change.now) }
 {
     let Sides { old, new, was, is } = sides;
     if diff.is_json {
@@ -369,7 +370,8 @@ fn push_object(
     change: &Change,
 ) -> Result<(), AllocError>
     ensures { OnOk result (text.new.items ≡ text.old.items
-        ++ object_line (option_copied entry.entry) (option_map place_of declared.entry) change.now) }
+        ++ object_line (option_copied entry.entry) (option_map place_of declared.entry)
+        change.now) }
 {
     let Some(tree) = entry else {
         return Ok(());

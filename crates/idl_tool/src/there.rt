@@ -1,15 +1,14 @@
 //! Which files of two versions are there.
 
-ghost use Rattle.std.specs.Prelude.{◌≡◌, ◌++◌, ◌∷◌, ◌||◌, [], IfOk, OnOk, codes, false, map, not, slice_get, true, unwrap_or};
+ghost use Rattle.std.specs.Prelude.{◌≡◌, ◌++◌, ◌∷◌, ◌||◌, [], IfOk, OnOk, false, map, not, slice_get, true, unwrap_or};
 ghost use Rattle.std.specs.List.{AllZip};
-ghost use Rattle.idl_source.specs.names.Path.{joined_path};
 ghost use Rattle.idl_tool.specs.There.{AreThere, IsHad, files_of, kept};
 
 use crate::failure::ToolFailure;
 use crate::request::Diff;
-use idl_driver::{FailureSubject, ProgramFailure};
+use idl_driver::{FailureSubject, ProgramFailure, name_at};
 use idl_loader::{Loaded, Loader};
-use idl_source::{Directory, Name, Refusal, join};
+use idl_source::Refusal;
 use std::alloc::{AllocError, Global};
 
 /// The FILEs of two versions, but those that one of them hasn't and the other one has.
@@ -65,7 +64,7 @@ fn is_had<'a, L: Loader>(file: &'a str, loader: &mut L) -> Result<bool, ToolFail
     ensures had { IfOk result (IsHad (L.told loader.old) file.now) }
     ensures still { OnOk result (L.told loader.new ≡ L.told loader.old) }
 {
-    let Some(name) = name_of(file) else {
+    let Some(name) = name_at(file.as_bytes()) else {
         let refused = ProgramFailure::Refused(FailureSubject::Word(file), Refusal::BadName);
         return Err(ToolFailure::Program(refused));
     };
@@ -77,16 +76,6 @@ fn is_had<'a, L: Loader>(file: &'a str, loader: &mut L) -> Result<bool, ToolFail
             let refused = ProgramFailure::Refused(FailureSubject::File(name), Refusal::NoMemory);
             Err(ToolFailure::Program(refused))
         }
-    }
-}
-
-// The name that a FILE leads to.
-fn name_of(file: &str) -> Option<Name>
-    ensures { result ≡ joined_path (codes ".") file.now }
-{
-    match Directory::new(b".") {
-        Some(here) => join(&here, file.as_bytes()),
-        None => None,
     }
 }
 
