@@ -15,7 +15,7 @@ returns-in_default-clause-settled g c = λ is.
     (record { encoding = refl; folders = refl; session = refl; documents = refl; tried = refl; unread = refl }) is
 
 pub returns-in_default-clause-caught : goal.returns-in_default-clause-caught
-returns-in_default-clause-caught g c = inr (caught-none c.args.self.now _ refl refl c.clear-in_default.ensures.empty c.in_default.not-Running)
+returns-in_default-clause-caught g c = inr (caught-none c.args.self.now _ refl refl c.clear.ensures.empty c.in_default.not-Running)
 
 pub returns-in_default-clause-published : goal.returns-in_default-clause-published
 returns-in_default-clause-published g c = none-published c.args.self.now.workspace (said_by c.args.out.now)
@@ -40,7 +40,7 @@ returns-clause-settled g c = λ is.
     let puts = c.in_ok-put_each.ensures in
     let settles = c.in_ok-settle.ensures in
     let runs : old.phase ≡ Waiting → ⊥ = λ waiting. absurd (cc) in
-    let shown = record (record settled { late = c.clear.new.self }) { workspace = record w { refused = c.show_refused.new.refused } } in
+    let shown = record (record settled { late = c.clear-2.new.self }) { workspace = record w { refused = c.show_refused.new.refused } } in
     on_ok c.publish.result
     (settled-kept told shown _ (λ waiting. waiting) c.publish.ensures.kept
     (settled-kept told settled shown (λ waiting. waiting) (record { encoding = refl; folders = refl; session = refl; documents = refl; tried = refl; unread = refl })
@@ -64,7 +64,7 @@ returns-clause-caught g c =
       set = set-both old.workspace w last (set-both old.workspace put w (puts-set _ old.workspace put puts.put) settles.set)
           (record { encoding = kept.encoding; folders = kept.folders; macros = λ i. (kept.session i).project.inputs.macros; search = λ i. (kept.session i).project.inputs.search });
       phase = refl;
-      none = c.clear.ensures.empty;
+      none = c.clear-2.ensures.empty;
     }))
 
 pub returns-clause-published : goal.returns-clause-published

@@ -46,9 +46,10 @@ returns-clause-taken c =
     let name = c.args.name.now in
     let old = c.args.self.now in
     let one = subst (λ (n : List ℕ). IsWith n true old.late.keys c.insert.new.self.keys) c.copied.ensures c.in_ok-insert.ensures.updates.0 in
+    let new = record old { late = c.insert.new.self; workspace = c.put_off.new.self } in
     on_ok_weaker c.put_off.result
-    (λ text. taken-late _ name changes old _ (late-still name old _ c.requires.runs c.requires.runs one) (changed-told folders params name changes c.requires.change.0 some) c.put_off.ensures.stays text
-    (late-more name old _ c.requires.runs c.requires.runs one)) c.put_off.ensures.text
+    (λ text. taken-late _ name changes old new (late-still name old new c.requires.runs c.requires.runs one) (changed-told folders params name changes c.requires.change.0 some) c.put_off.ensures.stays text
+    (late-more name old new c.requires.runs c.requires.runs one)) c.put_off.ensures.text
 
 pub returns-clause-published : goal.returns-clause-published
 returns-clause-published c = λ w. on_ok c.put_off.result (none-published w (said_by c.args.out.now))

@@ -56,7 +56,7 @@ returns-in_default-2-clause-taken g c =
     c.take_value.ensures.taken c.take_value.ensures.published
 
 pub returns-in_default-2-clause-on_time : goal.returns-in_default-2-clause-on_time
-returns-in_default-2-clause-on_time g c = on_ok c.take_value.result (c.take_value.ensures.late ∙ c.in_ok-catch_up-2.ensures.on_time)
+returns-in_default-2-clause-on_time g c = on_ok c.take_value.result ((λ i. (c.take_value.ensures.late i).keys) ∙ c.in_ok-catch_up-2.ensures.on_time)
 
 pub returns-in_default-2-clause-answered : goal.returns-in_default-2-clause-answered
 returns-in_default-2-clause-answered g c =
