@@ -1,13 +1,17 @@
 -- Documents whose text the session hasn't, since it refused it.
-use Rattle.std.proofs.Common.{◌≡◌, ◌⊎◌, ◌∙◌, ℕ, Bool, true, false, List, Option, None, Some, inl, inr, refl, sym, ap, subst, true≢false}
+use Rattle.std.proofs.Common.{◌≡◌, ◌⊎◌, ◌∙◌, ℕ, Bool, true, false, cond, List, [], Option, None, Some, inl, inr, refl, sym, ap, subst, true≢false}
 use Rattle.std.specs.Cmp.Lexicographic.{bytes_decides}
+use Rattle.std.specs.List.{list_any}
 use Rattle.std.specs.Map.{lookup}
 use Rattle.std.specs.Option.{option_map}
 use Rattle.std.specs.Str.{bytes_eq}
 use Rattle.idl_inputs.specs.Project.{Project}
 use Rattle.idl_editor.specs.documents.Documents.{AreSameBeside, texts_of}
 use Rattle.idl_server.specs.Documents.{OnlyRefusedAreBehind, OnlyRefusedIsBehind}
-use Rattle.idl_server.specs.Server.{IsLate, OnlyLateIsBehind}
+use Rattle.idl_server.specs.Files.{IsWith}
+use Rattle.idl_server.specs.Server.{IsLate, OnlyLateIsBehind, late_by}
+use Rattle.idl_server.specs.declared.server.Phase.{Phase}
+use Rattle.idl_server.specs.declared.server.Phase.TheVariants.{Running, ShutDown, Waiting}
 use Rattle.idl_server.specs.declared.server.Server.{Server}
 use Rattle.idl_editor.specs.declared.documents.document.Document.{Document}
 
@@ -45,50 +49,57 @@ held-late old new late held = λ name. by name (held name)
     by name (inl same) = inl (same, late name)
     by name (inr refused) = inr (inr refused)
 
-not-late : (name : List ℕ) → ◌≡◌ {A = Option (List ℕ)} None (Some name) → ⊥
-not-late name h = absurd (cc)
+-- ---- which documents are late
 
-some-same : (name other : List ℕ) → ◌≡◌ {A = Option (List ℕ)} (Some name) (Some other) → name ≡ other
-some-same name other h = cc
+-- this one is, where a server runs
+pub late-there : (server : Server) (name : List ℕ) → server.phase ≡ Running → list_any (bytes_eq name) server.late.keys ≡ true → IsLate server name
+late-there server name runs there = (λ i. list_any (bytes_eq name) (late_by (runs i) server.late.keys)) ∙ there
 
--- where none was late
-pub none-late : (old new : Server) → old.late ≡ None → (name : List ℕ) → IsLate old name → IsLate new name
-none-late old new none name was = absurd (not-late name (sym none ∙ was.1))
+late-none : (phase : Phase) → late_by phase [] ≡ []
+late-none Running = refl
+late-none Waiting = refl
+late-none ShutDown = refl
 
--- the one that is late, and all beside it
-pub late-beside : (old new : Server) (name : List ℕ) → AreSameBeside name old.workspace.documents.entries new.workspace.documents.entries → IsLate new name → (old.late ≡ None) ⊎ (old.late ≡ Some name)
+-- none was
+pub none-late : (old new : Server) → old.late.keys ≡ [] → (name : List ℕ) → IsLate old name → IsLate new name
+none-late old new none name was =
+    absurd (true≢false (sym was ∙ (λ i. list_any (bytes_eq name) (late_by old.phase (none i))) ∙ ap (list_any (bytes_eq name)) (late-none old.phase)))
+
+-- one more is
+module _ (name : List ℕ) (old new : Server) (was : old.phase ≡ Running) (runs : new.phase ≡ Running) (one : IsWith name true old.late.keys new.late.keys) where
+  pub late-more : IsLate new name
+  late-more =
+      late-there new name runs
+      (one name ∙ ap (λ (b : Bool). cond b true (list_any (bytes_eq name) old.late.keys)) ((bytes_decides name name).1 refl))
+
+  pub late-still : (other : List ℕ) → IsLate old other → IsLate new other
+  late-still other is = late-there new other runs (one other ∙ by (bytes_eq name other))
+    where
+      before : list_any (bytes_eq other) old.late.keys ≡ true
+      before = (λ i. list_any (bytes_eq other) (late_by (sym was i) old.late.keys)) ∙ is
+
+      by : (b : Bool) → cond b true (list_any (bytes_eq other) old.late.keys) ≡ true
+      by true = refl
+      by false = before
+
+-- ---- documents of which some are late
+
+-- one that is, and all beside it
+pub late-beside : (old new : Server) (name : List ℕ) → AreSameBeside name old.workspace.documents.entries new.workspace.documents.entries → IsLate new name → ((other : List ℕ) → IsLate old other → IsLate new other)
     → (other : List ℕ) → OnlyLateIsBehind old new other
-late-beside old new name beside is alone = λ other. by other (bytes_eq name other) refl
+late-beside old new name beside is still = λ other. by other (bytes_eq name other) refl
   where
-    still : (other : List ℕ) → (old.late ≡ None) ⊎ (old.late ≡ Some name) → IsLate old other → IsLate new other
-    still other (inl none) was = none-late old new none other was
-    still other (inr same) was = (is.0, is.1 ∙ sym same ∙ was.1)
-
     by : (other : List ℕ) (b : Bool) → bytes_eq name other ≡ b → OnlyLateIsBehind old new other
-    by other true alike = inr (inl (is.0, is.1 ∙ ap (λ (n : List ℕ). Some n) ((bytes_decides name other).0 alike)))
-    by other false apart = inl (beside other apart, still other alone)
+    by other true alike = inr (inl (subst (λ (n : List ℕ). IsLate new n) ((bytes_decides name other).0 alike) is))
+    by other false apart = inl (beside other apart, still other)
 
--- the one that was late, of which the project got the text or refused it
-pub caught-beside : (old new : Server) (name : List ℕ) → AreSameBeside name old.workspace.documents.entries new.workspace.documents.entries → old.late ≡ Some name
-    → OnlyRefusedIsBehind old.workspace.session.project name new.workspace.documents.entries → (other : List ℕ) → OnlyLateIsBehind old new other
-caught-beside old new name beside is here = λ other. by other (bytes_eq name other) refl
-  where
-    only : (other : List ℕ) → bytes_eq name other ≡ false → IsLate old other → ⊥
-    only other apart was =
-        let same : name ≡ other = some-same name other (sym is ∙ was.1) in
-        absurd (true≢false (sym ((bytes_decides name other).1 same) ∙ apart))
-
-    by : (other : List ℕ) (b : Bool) → bytes_eq name other ≡ b → OnlyLateIsBehind old new other
-    by other true alike = inr (inr (subst (λ (n : List ℕ). OnlyRefusedIsBehind old.workspace.session.project n new.workspace.documents.entries) ((bytes_decides name other).0 alike) here))
-    by other false apart = inl (beside other apart, λ was. absurd (only other apart was))
-
--- the same documents after it, and the same one late
+-- the same documents after it, and the same ones late
 pub late-after : (old mid new : Server) → new.phase ≡ mid.phase → new.late ≡ mid.late → new.workspace.documents.entries ≡ mid.workspace.documents.entries → ((name : List ℕ) → OnlyLateIsBehind old mid name)
     → (name : List ℕ) → OnlyLateIsBehind old new name
 late-after old mid new phase late documents held = λ name. by name (held name)
   where
     still : (name : List ℕ) → IsLate mid name → IsLate new name
-    still name is = (phase ∙ is.0, late ∙ is.1)
+    still name is = (λ i. list_any (bytes_eq name) (late_by (phase i) (late i).keys)) ∙ is
 
     by : (name : List ℕ) → OnlyLateIsBehind old mid name → OnlyLateIsBehind old new name
     by name (inl same) = inl ((λ i. lookup (bytes_eq name) (documents i)) ∙ same.0, λ was. still name (same.1 was))

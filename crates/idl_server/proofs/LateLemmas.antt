@@ -1,5 +1,6 @@
 -- The session gets the text of a document later.
-use Rattle.std.proofs.Common.{◌≡◌, ◌∙◌, ◌⊎◌, ◌++◌, ◌∷◌, [], ℕ, All, Bool, true, false, List, Option, None, Err, Ok, Result, Some, ap, append-nil, inl, inr, is_some, refl, subst, sym, true≢false}
+use Rattle.std.proofs.Common.{◌≡◌, ◌∙◌, ◌+◌, ◌<◌, ◌⊎◌, ◌++◌, ◌∷◌, [], ℕ, All, Bool, true, false, List, Option, None, Err, Ok, Result, Some, ap, append-nil, get_or, inl, inr, is_some, length, refl, subst, sym, take, true≢false}
+use Rattle.std.proofs.lemmas.List.{take_more}
 use Rattle.std.proofs.lemmas.List.Elements.{All-weaker}
 use Rattle.std.specs.Cmp.Lexicographic.{bytes_decides}
 use Rattle.std.specs.FinMap as finite
@@ -15,7 +16,7 @@ use Rattle.serde_json.specs.View.{view}
 use Rattle.serde_json.specs.declared.value.Value.{Value}
 use Rattle.idl_project.specs.idl_sources.Compile.{compiled_root}
 use Rattle.idl_project.specs.UpToDate.{State}
-use Rattle.idl_editor.specs.documents.Documents.{AreSameBeside, Changed, HaveTexts, TextChange, Told, text_after_all, texts_of}
+use Rattle.idl_editor.specs.documents.Documents.{AreSameBeside, Changed, TextChange, Told, text_after_all, texts_of}
 use Rattle.idl_editor.specs.documents.Notices.{changes_told, json_of, name_in, told_by_message, told_by_notice}
 use Rattle.idl_editor.specs.messages.Params.{both}
 use Rattle.idl_editor.specs.uris.Folders.{FolderNamed}
@@ -26,27 +27,26 @@ use Rattle.idl_editor.specs.declared.messages.message.Message.TheVariants.{Inval
 use Rattle.idl_editor.specs.declared.messages.method.Method.TheVariants.{DidChange}
 use Rattle.idl_editor.specs.declared.documents.document.Document.{Document}
 use Rattle.idl_loader.specs.Holding.{Holding}
-use Rattle.idl_server.specs.Documents.{OnlyRefusedIsBehind}
 use Rattle.idl_server.specs.Files.{AreFiled, AreTried, IsFiled, IsKept, IsTried, StaysBeside, StaysButText, StaysSet, told_by}
 use Rattle.idl_server.specs.Roots.{AreCovered, AreRooted, IsCompiled, IsFull, IsOpen, IsThere}
 use Rattle.idl_editor.specs.messages.Message.{id_in}
-use Rattle.idl_server.specs.Late.{ArePublishedOnTime, CatchesUp, FindsNoneLate, HasCaughtUp, IsChange, IsChangeOf, TakesIn}
+use Rattle.idl_server.specs.Late.{ArePublishedOnTime, ArePut, CatchesUp, FindsNoneLate, HasCaughtUp, IsChange, IsPut, TakesIn}
 use Rattle.idl_server.specs.Messages.{IsAnswered, IsMessageOf, answered, asked_by, outcome_by}
 use Rattle.idl_server.specs.Published.{ArePublished}
-use Rattle.idl_server.specs.Server.{HasTaken, IsLate, IsSettled, if_running, told_to}
+use Rattle.idl_server.specs.Server.{HasTaken, IsLate, IsSettled, if_running, late_by, late_in, told_to}
 use Rattle.idl_server.specs.declared.server.Phase.{Phase}
-use Rattle.idl_server.specs.declared.server.Phase.TheVariants.{Running, Waiting}
+use Rattle.idl_server.specs.declared.server.Phase.TheVariants.{Running, ShutDown, Waiting}
 use Rattle.idl_server.specs.declared.server.Server.{Server}
 use Rattle.idl_server.specs.declared.server.StepOutcome.{StepOutcome}
 use Rattle.idl_server.specs.declared.server.StepOutcome.TheVariants.{Goes}
 use Rattle.idl_server.specs.declared.workspace.Workspace.{Workspace}
 use Rattle.idl_server.proofs.CoveredLemmas.{rooted-changed, text-open}
-use Rattle.idl_server.proofs.HeldLemmas.{caught-beside, late-after, late-beside}
+use Rattle.idl_server.proofs.HeldLemmas.{late-beside}
 use Rattle.idl_server.proofs.NoticeLemmas.{both-lost, taken-kept, taken-same, texts-with, told-json, told-nothing, told-notice}
 use Rattle.idl_server.proofs.PublishedLemmas.{error-published, one-published}
 use Rattle.idl_server.proofs.ServerLemmas.{told-settled}
 use Rattle.idl_server.proofs.ServingLemmas.{answered-null, message-none, message-some}
-use Rattle.idl_server.proofs.WorkspaceLemmas.{all-beside, filed-alike, on_ok_both, set-both, set-kept, set-same}
+use Rattle.idl_server.proofs.WorkspaceLemmas.{all-beside, filed-alike, on_ok_both, set-both, set-same}
 
 -- ---- what a message tells
 
@@ -82,16 +82,6 @@ change-asks body json params server some is = λ other id there asks. absurd (no
 
     one : (json other : Data) → ◌≡◌ {A = Option Data} (Some json) (Some other) → json ≡ other
     one json other h = cc
-
--- parameters are about the same open document then
-pub change-caught : (old mid : Server) (name : List ℕ) (params : Data) → CatchesUp old mid → IsChangeOf old.workspace name params → IsChangeOf mid.workspace name params
-change-caught old mid name params (inl same) is = subst (λ (server : Server). IsChangeOf server.workspace name params) (sym same) is
-change-caught old mid name params (inr caught) is =
-    ((λ i. name_in (caught.set.folders i) params) ∙ is.0, by (lookup (bytes_eq name) old.workspace.documents.entries) refl is.1)
-  where
-    by : (found : Option Document) → lookup (bytes_eq name) old.workspace.documents.entries ≡ found → IsSome found → IsOpen mid.workspace name
-    by (Some d) at there = text-open mid.workspace name d.text.items (caught.texts name ∙ ap (λ (o : Option Document). option_map (λ (x : Document). x.text.items) o) at)
-    by None at there = absurd (true≢false (sym there))
 
 -- ---- a document whose text changed is open as before
 
@@ -190,9 +180,9 @@ pub late-settled : {T E : Type 0} (result : Result T E) (told : List ℕ → Hol
 late-settled (Ok x) told name f old new stays text filed runs is = put-off-settled told name f old new stays text filed runs is
 late-settled (Err e) told name f old new stays text filed runs is = tt
 
--- ---- a text that is put
+-- ---- texts that are put
 
--- it is that of an open document, or nothing was done
+-- one is that of an open document, or nothing was done
 pub put-filed : (told : List ℕ → Holding) (name : List ℕ) (old new : Workspace) → StaysBeside name old new
     → (IsSome (lookup (bytes_eq name) old.documents.entries) → (t : List ℕ → Holding) → IsFiled t new name) → (lookup (bytes_eq name) old.documents.entries ≡ None → new ≡ old) → AreFiled told old → AreFiled told new
 put-filed told name old new beside opened absent are = by (lookup (bytes_eq name) old.documents.entries) refl
@@ -201,67 +191,60 @@ put-filed told name old new beside opened absent are = by (lookup (bytes_eq name
     by (Some d) at = all-beside told name old new beside (opened (ap (λ (o : Option Document). is_some o) at) told) are
     by None at = subst (λ (x : Workspace). AreFiled told x) (sym (absent at)) are
 
--- its documents have their texts
-pub put-texts : (name : List ℕ) (old new : List (List ℕ × Document)) → AreSameBeside name old new → texts_of new name ≡ texts_of old name → HaveTexts new (texts_of old)
-put-texts name old new beside here = λ other. by other (bytes_eq name other) refl
-  where
-    by : (other : List ℕ) (b : Bool) → bytes_eq name other ≡ b → texts_of new other ≡ texts_of old other
-    by other true alike = subst (λ (n : List ℕ). texts_of new n ≡ texts_of old n) ((bytes_decides name other).0 alike) here
-    by other false apart = λ i. option_map (λ (d : Document). d.text.items) (beside other apart i)
-
 same-text : (o : Option (List ℕ)) → option_map (λ (t : List ℕ). t) o ≡ o
 same-text None = refl
 same-text (Some t) = refl
 
+-- one after another
+pub puts-on : (names : List (List ℕ)) (name : List ℕ) (old mid new : Workspace) → ArePut names old mid → IsPut name mid new → ArePut (names ++ name ∷ []) old new
+puts-on [] name old mid new same one = (new, subst (λ (w : Workspace). IsPut name w new) same one, refl)
+puts-on (x ∷ names) name old mid new are one = (are.0, are.1, puts-on names name are.0 mid new are.2 one)
+
+pub puts-more : (names : List (List ℕ)) (i : ℕ) (name : List ℕ) (old mid new : Workspace) → i < length names → name ≡ get_or names i name → ArePut (take i names) old mid → IsPut name mid new → ArePut (take (i + 1) names) old new
+puts-more names i name old mid new within is are one =
+    subst (λ (ns : List (List ℕ)). ArePut ns old new) (sym (take_more names i name within ∙ ap (λ (n : List ℕ). take i names ++ n ∷ []) (sym is)))
+    (puts-on (take i names) name old mid new are one)
+
+pub puts-set : (names : List (List ℕ)) (old new : Workspace) → ArePut names old new → StaysSet old new
+puts-set [] old new same = subst (λ (w : Workspace). StaysSet old w) (sym same) (set-same old)
+puts-set (x ∷ names) old new are = set-both old are.0 new are.1.set (puts-set names are.0 new are.2)
+
+-- a root was an open document
+pub put-rooted : (name : List ℕ) (old new : Workspace) → StaysBeside name old new → texts_of new.documents.entries name ≡ texts_of old.documents.entries name → AreRooted old → AreRooted new
+put-rooted name old new beside text are =
+    rooted-changed name (λ (t : List ℕ). t) old new beside.roots beside.documents (text ∙ sym (same-text (texts_of old.documents.entries name))) are
+
 -- ---- the session catches up
 
--- none is late
-pub caught-none : (old : Server) → ((name : List ℕ) → IsLate old name → ⊥) → HasCaughtUp old (record old { late = None })
-caught-none old never = record {
-  texts = λ name. refl;
-  held = λ name. inl (refl, λ was. absurd (never name was));
-  set = set-same old.workspace;
-  phase = refl;
-  none = refl;
+-- a server that doesn't run has none that is late
+none-in : (phase : Phase) (late : List (List ℕ)) → (phase ≡ Running → ⊥) → late_by phase late ≡ []
+none-in Running late never = absurd (never refl)
+none-in Waiting late never = refl
+none-in ShutDown late never = refl
+
+pub caught-none : (old new : Server) → new.workspace ≡ old.workspace → new.phase ≡ old.phase → new.late.keys ≡ [] → (old.phase ≡ Running → ⊥) → HasCaughtUp old new
+caught-none old new same phase none never = record {
+  put = old.workspace;
+  puts = subst (λ (names : List (List ℕ)). ArePut names old.workspace old.workspace) (sym (none-in old.phase old.late.keys never)) refl;
+  documents = λ i. (same i).documents;
+  set = subst (λ (w : Workspace). StaysSet old.workspace w) (sym same) (set-same old.workspace);
+  phase = phase;
+  none = none;
 }
 
-pub settled-none : (told : List ℕ → Holding) (old : Server) → IsSettled told old → IsSettled told (record old { late = None })
-settled-none told old is = record { filed = is.filed; tried = is.tried; rooted = is.rooted; covered = is.covered; blank = is.blank }
-
--- the text of the late one was put, and then what roots ask for was loaded
-module _ (told : List ℕ → Holding) (name : List ℕ) (old : Server) (put w : Workspace) (beside : StaysBeside name old.workspace put)
-    (text : texts_of put.documents.entries name ≡ texts_of old.workspace.documents.entries name) (set : StaysSet put w) where
+-- the texts of those that are late were put, and then what roots ask for was loaded
+module _ (told : List ℕ → Holding) (old : Server) (put w : Workspace) (before : StaysSet old.workspace put) (set : StaysSet put w) where
   same : told_by put.folders told ≡ told_by old.workspace.folders told
-  same = λ i. told_by (beside.set.folders i) told
+  same = λ i. told_by (before.folders i) told
 
-  pub caught-settled : (IsSome (lookup (bytes_eq name) old.workspace.documents.entries) → (t : List ℕ → Holding) → IsFiled t put name)
-      → (lookup (bytes_eq name) old.workspace.documents.entries ≡ None → put ≡ old.workspace) → (AreFiled (told_by put.folders told) put → AreFiled (told_by put.folders told) w) → AreTried w
-      → (AreRooted put → AreRooted w) → AreCovered w → (old.phase ≡ Waiting → ⊥) → IsSettled told old → IsSettled told (record old { workspace = w })
-  caught-settled opened absent filed tried rooted covered runs is =
-      let before = put-filed (told_by old.workspace.folders told) name old.workspace put beside opened absent is.filed in
-      let after = subst (λ (t : List ℕ → Holding). AreFiled t w) same (filed (subst (λ (t : List ℕ → Holding). AreFiled t put) (sym same) before)) in
-      let opens = rooted-changed name (λ (t : List ℕ). t) old.workspace put beside.roots beside.documents (text ∙ sym (same-text (texts_of old.workspace.documents.entries name))) is.rooted in
-      told-settled told old w (set-both old.workspace put w beside.set set) after tried (rooted opens) covered runs
+  pub caught-settled : AreFiled (told_by old.workspace.folders told) put → (AreFiled (told_by put.folders told) put → AreFiled (told_by put.folders told) w) → AreTried w → AreRooted w → AreCovered w → (old.phase ≡ Waiting → ⊥)
+      → IsSettled told (record old { workspace = w })
+  caught-settled are filed tried rooted covered runs =
+      told-settled told old w (set-both old.workspace put w before set) (subst (λ (t : List ℕ → Holding). AreFiled t w) same (filed (subst (λ (t : List ℕ → Holding). AreFiled t put) (sym same) are))) tried rooted covered runs
 
-  pub caught-up : w.documents ≡ put.documents → old.late ≡ Some name → OnlyRefusedIsBehind old.workspace.session.project name put.documents.entries → HasCaughtUp old (record old { workspace = w; late = None })
-  caught-up documents is held = record {
-    texts = λ other. (λ i. texts_of (documents i).entries other) ∙ put-texts name old.workspace.documents.entries put.documents.entries beside.documents text other;
-    held = late-after old (record old { workspace = put; late = None }) (record old { workspace = w; late = None }) refl refl (λ i. (documents i).entries)
-        (caught-beside old (record old { workspace = put; late = None }) name beside.documents is held);
-    set = set-both old.workspace put w beside.set set;
-    phase = refl;
-    none = refl;
-  }
-
--- what is shown of it changes nothing
-pub caught-kept : (old mid new : Server) → new.phase ≡ mid.phase → new.late ≡ mid.late → IsKept mid.workspace new.workspace → HasCaughtUp old mid → HasCaughtUp old new
-caught-kept old mid new phase late kept caught = record {
-  texts = λ name. (λ i. texts_of (kept.documents i).entries name) ∙ caught.texts name;
-  held = late-after old mid new phase late (λ i. (kept.documents i).entries) caught.held;
-  set = set-both old.workspace mid.workspace new.workspace caught.set (set-kept mid.workspace new.workspace kept);
-  phase = phase ∙ caught.phase;
-  none = late ∙ caught.none;
-}
+-- they are those of a server that runs
+pub late-run : (server : Server) → server.phase ≡ Running → server.late.keys ≡ late_in server
+late-run server runs = λ i. late_by (sym runs i) server.late.keys
 
 -- ---- what a step comes to
 
@@ -280,12 +263,12 @@ takes-nothing old new body before between after none is caught later =
     (inr (λ w. one-published w before between (error_json null NoJson) is (error-published w null NoJson))) later
 
 -- what is taken in behind the text before
-pub takes-on : {T E : Type 0} (result : Result T E) (told : Option Told) (old mid new : Server) (body : List ℕ) (before between after : List Data) → told_to mid body ≡ told → CatchesUp old mid → mid.late ≡ None
+pub takes-on : {T E : Type 0} (result : Result T E) (told : Option Told) (old mid new : Server) (body : List ℕ) (before between after : List Data) → told_to mid body ≡ told → CatchesUp old mid → mid.late.keys ≡ []
     → new.late ≡ mid.late → ArePublished mid.workspace before between → OnOk result (HasTaken told mid new) → OnOk result (ArePublished new.workspace between after) → OnOk result (TakesIn body old new before after)
 takes-on result told old mid new body before between after is caught none late early taken later =
     on_ok_both result
     (λ (has : HasTaken told mid new) (more : ArePublished new.workspace between after).
-    takes-then old mid new body before between after caught (λ json id some asks. none) (subst (λ (t : Option Told). HasTaken t mid new) (sym is ∙ told-caught old mid body caught) has) (inl (none, early)) (inl (late ∙ none, more))) taken later
+    takes-then old mid new body before between after caught (λ json id some asks. none) (subst (λ (t : Option Told). HasTaken t mid new) (sym is ∙ told-caught old mid body caught) has) (inl (none, early)) (inl ((λ i. (late i).keys) ∙ none, more))) taken later
 
 -- who is answered by a change
 pub change-answered : (body : List ℕ) (json : Data) (params : Bor Value) (old new : Phase) (before after : List Data) → json_of body ≡ Some json → IsChange json (view params.now) → old ≡ Running → new ≡ old
@@ -316,12 +299,12 @@ pub changed-told : (folders : List FolderNamed) (params : Data) (name : List ℕ
     → told_by_notice folders DidChange params ≡ Some (Changed name changes)
 changed-told folders params name changes named told = λ i. both Changed (named i) (told i)
 
-pub taken-late : (told : Option Told) (name : List ℕ) (changes : List TextChange) (old new : Server) → (old.late ≡ None) ⊎ (old.late ≡ Some name) → told ≡ Some (Changed name changes) → StaysButText name old.workspace new.workspace
+pub taken-late : (told : Option Told) (name : List ℕ) (changes : List TextChange) (old new : Server) → ((other : List ℕ) → IsLate old other → IsLate new other) → told ≡ Some (Changed name changes) → StaysButText name old.workspace new.workspace
     → texts_of new.workspace.documents.entries name ≡ option_map (λ text. text_after_all old.workspace.encoding text changes) (texts_of old.workspace.documents.entries name) → IsLate new name → HasTaken told old new
-taken-late told name changes old new alone is stays text late =
+taken-late told name changes old new still is stays text late =
     subst (λ (t : Option Told). HasTaken t old new) (sym is) (record {
       texts = texts-with name _ old.workspace.documents.entries new.workspace.documents.entries stays.documents text;
-      held = late-beside old new name stays.documents late alone;
+      held = late-beside old new name stays.documents late still;
       set = λ runs. record {
         encoding = stays.encoding;
         folders = stays.folders;

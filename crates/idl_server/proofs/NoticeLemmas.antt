@@ -1,9 +1,10 @@
 -- What a server takes in.
-use Rattle.std.proofs.Common.{◌≡◌, ◌∙◌, ℕ, Bool, true, false, List, Option, None, Some, if◌then◌else◌, is_some, option_and_then, refl, rules, sym, ap, subst}
+use Rattle.std.proofs.Common.{◌≡◌, ◌∙◌, ℕ, Bool, true, false, List, Option, None, Some, if◌then◌else◌, is_some, option_and_then, refl, rules, sym, ap, subst, true≢false}
 use Rattle.std.proofs.lemmas.Str.{IsUtf8-from_is_utf8, is_utf8-from_IsUtf8}
 use Rattle.std.specs.Borrow.{Bor}
 use Rattle.std.specs.Cmp.Lexicographic.{bytes_decides}
 use Rattle.std.specs.Option.{option_map, unwrap_or}
+use Rattle.std.specs.List.{list_any}
 use Rattle.std.specs.Str.{IsUtf8, bytes_eq, is_utf8}
 use Rattle.serde_json.specs.Data.{Data, null}
 use Rattle.serde_json.specs.Read.{read}
@@ -16,7 +17,7 @@ use Rattle.idl_editor.specs.documents.Documents.{AreSameBeside, HaveTexts, Told,
 use Rattle.idl_editor.specs.messages.Params.{both}
 use Rattle.idl_server.specs.Files.{IsKept}
 use Rattle.idl_editor.specs.documents.Notices.{json_of, told_by_message, told_by_notice}
-use Rattle.idl_server.specs.Server.{HasTaken, IsLate, OnlySets, if_running, told_to}
+use Rattle.idl_server.specs.Server.{HasTaken, IsLate, OnlySets, if_running, late_by, told_to}
 use Rattle.idl_editor.specs.declared.documents.document.Document.{Document}
 use Rattle.idl_server.specs.declared.server.Phase.{Phase}
 use Rattle.idl_server.specs.declared.server.Phase.TheVariants.{Running, ShutDown, Waiting}
@@ -109,7 +110,7 @@ taken-same told server none =
 pub taken-set : (old new : Server) → OnlySets old.workspace new.workspace → old.phase ≡ Waiting → HasTaken None old new
 taken-set old new sets waiting = record {
   texts = λ name i. texts_of (sets.documents i).entries name;
-  held = held-late old new (λ name was. absurd (apart (sym waiting ∙ was.0))) (held-same old.workspace.session.project _ _ (λ i. (sets.documents i).entries));
+  held = held-late old new (λ name was. absurd (true≢false (sym was ∙ (λ i. list_any (bytes_eq name) (late_by (waiting i) old.late.keys))))) (held-same old.workspace.session.project _ _ (λ i. (sets.documents i).entries));
   set = λ runs. absurd (apart (sym waiting ∙ runs));
 }
   where

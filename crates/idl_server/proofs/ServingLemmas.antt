@@ -185,13 +185,13 @@ append-none (Some bytes) = ap (λ (b : List ℕ). Some b) (sym (append-nil bytes
 -- ---- a session
 
 -- none came yet
-pub served-none : (told : List ℕ → Holding) (server : Server) (stream left written : Option (List ℕ)) → stream ≡ left → server.late ≡ None → AreServed told server stream left written written server
+pub served-none : (told : List ℕ → Holding) (server : Server) (stream left written : Option (List ℕ)) → stream ≡ left → server.late.keys ≡ [] → AreServed told server stream left written written server
 served-none told server stream left written same none =
     record { bodies = []; said = []; text = []; taken = same; served = (refl, refl); on_time = λ over. none; texts = refl; written = append-none written }
 
 -- one more came
 pub served-more : (told : List ℕ → Holding) (old mid new : Server) (stream left rest before written after : Option (List ℕ)) (body : List ℕ) (said : List Data) (text : List ℕ)
-    → AreServed told old stream left before written mid → TakesMessage body left rest → HasStepped told body mid said new Goes → (rest ≡ Some [] → new.late ≡ None) → AreWritten said text
+    → AreServed told old stream left before written mid → TakesMessage body left rest → HasStepped told body mid said new Goes → (rest ≡ Some [] → new.late.keys ≡ []) → AreWritten said text
     → after ≡ append written text → AreServed told old stream rest before after new
 served-more told old mid new stream left rest before written after body said text are one steps on_time texts next = record {
   bodies = are.bodies ++ body ∷ [];

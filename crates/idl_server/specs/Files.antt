@@ -9,10 +9,12 @@ use Rattle.idl_inputs.specs.Bank.{IsSameBeside}
 use Rattle.idl_project.specs.idl_sources.Compile.{compiled_root}
 use Rattle.idl_loader.specs.Holding.{Holding, NoFile, Allows}
 use Rattle.idl_loader.specs.Holding.{IsFileOf}
+use Rattle.idl_editor.specs.Splices.{IsSplice}
 use Rattle.idl_editor.specs.uris.Folders.{FolderNamed, path_for}
 use Rattle.idl_editor.specs.documents.Documents.{AreSameBeside}
 use Rattle.idl_server.specs.Roots.{AddsNoRoot}
 use Rattle.idl_editor.specs.declared.documents.document.Document.{Document}
+use Rattle.idl_editor.specs.declared.splice.LineSplice.{LineSplice}
 use Rattle.idl_server.specs.declared.workspace.Workspace.{Workspace}
 
 -- what a loader that tells of paths tells of names
@@ -25,6 +27,14 @@ IsOpenFile w name =
     (document : Document) → lookup (bytes_eq name) w.documents.entries ≡ Some document
     → document.is_behind ≡ false
     → finite.get w.session.project.inputs.files name ≡ Some (cut_lines document.text.items)
+
+-- a splice of the lines of a document's file makes them those of its text
+pub record SplicesText (splice : LineSplice) (name : List ℕ) (w : Workspace) : Type 0 where
+  pub document : Document
+  pub lines : List (List ℕ)
+  pub opened : lookup (bytes_eq name) w.documents.entries ≡ Some document
+  pub there : finite.get w.session.project.inputs.files name ≡ Some lines
+  pub splices : IsSplice lines splice (cut_lines document.text.items)
 
 -- a file is one that the loader has
 abbrev pub IsLoadedFile : (List ℕ → Holding) → Workspace → List ℕ → Type 0

@@ -1,6 +1,7 @@
 -- What holds of a server between messages.
-use Rattle.std.specs.Prelude.{◌≡◌, ◌⊎◌, ℕ, List, [], Option, None, Some, option_and_then}
+use Rattle.std.specs.Prelude.{◌≡◌, ◌⊎◌, ℕ, true, List, [], Option, None, option_and_then}
 use Rattle.std.specs.FinMap as finite
+use Rattle.std.specs.List.{list_any}
 use Rattle.std.specs.Map.{lookup}
 use Rattle.std.specs.Str.{bytes_eq}
 use Rattle.idl_loader.specs.Holding.{Holding}
@@ -55,9 +56,18 @@ told_to server body =
 abbrev pub open_in : Server → Open
 open_in server = texts_of server.workspace.documents.entries
 
--- the session gets the text of this document later
+-- the documents of which the session gets the texts later, while a server runs
+abbrev pub late_by : Phase → List (List ℕ) → List (List ℕ)
+late_by Running late = late
+late_by Waiting late = []
+late_by ShutDown late = []
+
+abbrev pub late_in : Server → List (List ℕ)
+late_in server = late_by server.phase server.late.keys
+
+-- this document is one of them
 abbrev pub IsLate : Server → List ℕ → Type 0
-IsLate server name = (server.phase ≡ Running) × (server.late ≡ Some name)
+IsLate server name = list_any (bytes_eq name) (late_in server) ≡ true
 
 -- a document is as it was, and late if it was; or it is late, or behind only where the project refuses
 -- its text
@@ -79,5 +89,5 @@ pub record HasTaken (told : Option Told) (old new : Server) : Type 0 where
 -- a server that was told nothing
 pub record IsNew (server : Server) : Type 0 where
   pub waits : server.phase ≡ Waiting
-  pub on_time : server.late ≡ None
+  pub on_time : server.late.keys ≡ []
   pub blank : IsBlank server.workspace

@@ -1,5 +1,5 @@
 -- What a server does from the first message to the last.
-use Rattle.std.specs.Prelude.{◌≡◌, ◌≢◌, ◌≤◌, ◌⊎◌, ◌++◌, ℕ, List, [], ◌∷◌, Option, None, Some}
+use Rattle.std.specs.Prelude.{◌≡◌, ◌≢◌, ◌≤◌, ◌⊎◌, ◌++◌, ℕ, List, [], ◌∷◌, Option, Some}
 use Rattle.std.specs.Str.{IsUtf8}
 use Rattle.serde_json.specs.Data.{Data, depth}
 use Rattle.serde_json.specs.Read.{max_depth, read}
@@ -82,7 +82,7 @@ pub record AreServed (told : List ℕ → Holding) (old : Server)
   pub text : List ℕ
   pub taken : TakesMessages bodies stream left
   pub served : Serves told old bodies said new
-  pub on_time : left ≡ Some [] → new.late ≡ None
+  pub on_time : left ≡ Some [] → new.late.keys ≡ []
   pub texts : AreWritten said text
   pub written : after ≡ append before text
 

@@ -1,17 +1,15 @@
 //! Documents that are opened, changed and closed.
 
 ghost use Rattle.std.specs.Prelude.{◌≡◌, ℕ, List, IsSome, None, OnOk, Some, map};
-ghost use Rattle.std.specs.FinMap as finite;
 ghost use Rattle.std.specs.Map.{lookup};
 ghost use Rattle.std.specs.Option.{option_map};
 ghost use Rattle.std.specs.Str.{bytes_eq};
-ghost use Rattle.idl_source.specs.texts.Cut.{cut_lines};
-ghost use Rattle.idl_editor.specs.Splices.{IsSplice};
 ghost use Rattle.idl_loader.specs.Holding.{Holding};
 ghost use Rattle.idl_editor.specs.documents.Documents.{change_told, text_after_all, texts_of};
 ghost use Rattle.idl_server.specs.Documents.{OnlyRefusedIsBehind};
-ghost use Rattle.idl_server.specs.Files.{IsFiled, StaysBeside, StaysButText};
-ghost use Rattle.idl_editor.specs.declared.documents.document.Document.{Document};
+ghost use Rattle.idl_server.specs.Files.{AreFiled, IsFiled, SplicesText, StaysBeside, StaysButText};
+ghost use Rattle.idl_server.specs.Late.{ArePut};
+ghost use Rattle.idl_server.specs.Roots.{AreRooted};
 
 use crate::workspace::{Workspace, keep_all};
 use idl_editor::documents::{Document, push_refused, set_behind, set_text, text_after_all};
@@ -121,10 +119,7 @@ impl Workspace {
         ensures beside { OnOk result (StaysBeside name.now self.old self.new) }
         ensures text { OnOk result (texts_of self.new.documents.entries name.now
             ≡ texts_of self.old.documents.entries name.now) }
-        ensures filed { (document : Document) → (lines : List (List ℕ))
-            → lookup (bytes_eq name.now) self.old.documents.entries ≡ Some document
-            → finite.get self.old.session.project.inputs.files name.now ≡ Some lines
-            → IsSplice lines splice (cut_lines document.text.items)
+        ensures filed { SplicesText splice name.now self.old
             → OnOk result ((told : List ℕ → Holding) → IsFiled told self.new name.now) }
         ensures held { OnOk result (OnlyRefusedIsBehind self.old.session.project name.now
             self.new.documents.entries) }
@@ -139,6 +134,19 @@ impl Workspace {
             }
             Err(_) => self.put_whole(name),
         }
+    }
+
+    /// Puts the whole texts of documents into the session, one after another.
+    pub fn put_each(&mut self, names: &[Name]) -> Result<(), AllocError>
+        ensures put { OnOk result (ArePut names.now self.old self.new) }
+        ensures filed { (told : List ℕ → Holding)
+            → AreFiled told self.old → OnOk result (AreFiled told self.new) }
+        ensures rooted { AreRooted self.old → OnOk result (AreRooted self.new) }
+    {
+        'names: for name in names {
+            self.put_whole(name)?;
+        }
+        Ok(())
     }
 
     /// Puts the whole text of a document into the session. Where that is refused, the document is behind.

@@ -1,6 +1,6 @@
 //! The server: a step of it for each message.
 
-ghost use Rattle.std.specs.Prelude.{◌≡◌, ◌⊎◌, ◌++◌, ◌∷◌, [], ℕ, List, Contains, None, Some, IfOk, IfSome, IsErr, OnErr, OnOk, true};
+ghost use Rattle.std.specs.Prelude.{◌≡◌, ◌⊎◌, ◌++◌, ◌∷◌, [], ℕ, List, Contains, None, IfOk, IfSome, IsErr, OnErr, OnOk};
 ghost use Rattle.serde_json.specs.View.{view};
 ghost use Rattle.idl_loader.specs.Holding.{Holding};
 ghost use Rattle.idl_editor.specs.messages.Said.{said_by};
@@ -71,8 +71,8 @@ pub struct Server {
     phase: Phase,
     pub(crate) workspace: Workspace,
     told: PublishedDiagnostics,
-    // The document that changed while more was there to be taken in: the session gets its text later.
-    late: Option<Name>,
+    // The documents that changed while more was there to be taken in: the session gets their texts later.
+    late: IndexSet<Name>,
 }
 
 impl Server {
@@ -84,6 +84,7 @@ impl Server {
         let session = Session::new(alloc);
         let documents = IndexMap::new(alloc);
         let tried = IndexSet::new(alloc);
+        let late = IndexSet::new(alloc);
         let workspace = Workspace {
             encoding: Encoding::Utf16,
             folders: Folders::new(alloc),
@@ -100,7 +101,7 @@ impl Server {
             phase: Phase::Waiting,
             workspace,
             told: PublishedDiagnostics::new(alloc),
-            late: None,
+            late,
         }
     }
 
@@ -115,7 +116,7 @@ impl Server {
             → OnOk result (IsSettled (L.told_of loader.old) self.new) }
         ensures taken { OnOk result (TakesIn body.now self.old self.new
             (said_by out.old) (said_by out.new)) }
-        ensures on_time { OnOk result (self.new.late ≡ None) }
+        ensures on_time { OnOk result (self.new.late.keys ≡ []) }
         ensures answered { IfOk result (λ outcome. (message : Message)
             × IsMessageOf body.now message × IsAnswered message self.old.phase self.new.phase
             (said_by out.old) (said_by out.new) outcome) }
@@ -157,11 +158,6 @@ impl Server {
             self.catch_up(loader, out)?;
             return self.take_value(loader, &value, out);
         };
-        if self.is_late(&name) {
-            self.put_off(&name, params, out)?;
-            return Ok(StepOutcome::Goes);
-        }
-        self.catch_up(loader, out)?;
         self.put_off(&name, params, out)?;
         Ok(StepOutcome::Goes)
     }
@@ -184,37 +180,25 @@ impl Server {
         }
     }
 
-    // The same of the document that is late.
+    // The same of a document that is late.
     fn late_change<'v>(&self, value: &'v Value) -> Result<Option<(Name, &'v Value)>, AllocError>
         ensures { IfOk result (λ found. IfSome found (λ change. (self.now.phase ≡ Running)
             × IsChange (view value.now) (view change.1.now)
-            × IsChangeOf self.now.workspace change.0 (view change.1.now)
-            × (self.now.late ≡ Some change.0))) }
+            × IsChangeOf self.now.workspace change.0 (view change.1.now))) }
     {
         let Some((name, params)) = self.changed_by(value)? else {
             return Ok(None);
         };
-        if !self.is_late(&name) {
+        if !self.late.contains(&name) {
             return Ok(None);
         }
         Ok(Some((name, params)))
-    }
-
-    // Whether this document is late.
-    fn is_late(&self, name: &Name) -> bool
-        ensures { result ≡ true → self.now.late ≡ Some name.now }
-    {
-        match &self.late {
-            Some(late) => late == name,
-            None => false,
-        }
     }
 
     // Changes the text of an open document, of which the session gets it later. Nothing of it is said before that.
     fn put_off(&mut self, name: &Name, params: &Value, out: &mut Outbox) -> Result<(), AllocError>
         requires change { IsChangeOf self.old.workspace name.now (view params.now) }
         requires runs { self.old.phase ≡ Running }
-        requires alone { (self.old.late ≡ None) ⊎ (self.old.late ≡ Some name.now) }
         ensures settled { (told : List ℕ → Holding)
             → IsSettled told self.old → OnOk result (IsSettled told self.new) }
         ensures taken { OnOk result (HasTaken (told_by_notice self.old.workspace.folders
@@ -228,11 +212,11 @@ impl Server {
             self.workspace.keep_bad_change(name)?;
             return show_refused(&mut self.workspace.refused, out);
         };
-        self.late = Some(name.copied());
+        self.late.insert(name.copied())?;
         self.workspace.put_off(name, version_of(params), &changes)
     }
 
-    // Hands the session the text of the document that is late, and tells what is found then.
+    // Hands the session the texts of the documents that are late, and tells what is found then.
     fn catch_up<L: PathLoader>(
         &mut self,
         loader: &mut L,
@@ -241,7 +225,7 @@ impl Server {
         ensures settled { IsSettled (L.told_of loader.old) self.old
             → OnOk result (IsSettled (L.told_of loader.old) self.new) }
         ensures caught { OnOk result (CatchesUp self.old self.new) }
-        ensures on_time { OnOk result (self.new.late ≡ None) }
+        ensures on_time { OnOk result (self.new.late.keys ≡ []) }
         ensures published { OnOk result (ArePublished self.new.workspace
             (said_by out.old) (said_by out.new)) }
         ensures answers { OnOk result (answered (said_by out.new) ≡ answered (said_by out.old)) }
@@ -250,15 +234,15 @@ impl Server {
     {
         // A text is put off only where the server runs.
         let Phase::Running = self.phase else {
-            self.late = None;
+            self.late.clear();
             return Ok(());
         };
-        let Some(name) = &self.late else {
+        if self.late.is_empty() {
             return Ok(());
-        };
-        self.workspace.put_whole(name)?;
+        }
+        self.workspace.put_each(self.late.as_slice())?;
         self.workspace.settle(loader)?;
-        self.late = None;
+        self.late.clear();
         show_refused(&mut self.workspace.refused, out)?;
         self.told.publish(&mut self.workspace, out)
     }
@@ -270,7 +254,7 @@ impl Server {
         value: &Value,
         out: &mut Outbox,
     ) -> Result<StepOutcome, AllocError>
-        requires on_time { self.old.late ≡ None }
+        requires on_time { self.old.late.keys ≡ [] }
         ensures settled { IsSettled (L.told_of loader.old) self.old
             → OnOk result (IsSettled (L.told_of loader.old) self.new) }
         ensures taken { OnOk result (HasTaken (if_running self.old.phase
@@ -312,7 +296,7 @@ impl Server {
         params: &Value,
         out: &mut Outbox,
     ) -> Result<(), AllocError>
-        requires on_time { self.old.late ≡ None }
+        requires on_time { self.old.late.keys ≡ [] }
         ensures settled { (told : List ℕ → Holding)
             → IsSettled told self.old → OnOk result (IsSettled told self.new) }
         ensures taken { OnOk result (HasTaken None self.old self.new) }
@@ -331,7 +315,7 @@ impl Server {
 
     // What comes of a request.
     fn outcome(&mut self, method: Method, params: &Value) -> Result<RequestOutcome, AllocError>
-        requires on_time { self.old.late ≡ None }
+        requires on_time { self.old.late.keys ≡ [] }
         ensures settled { (told : List ℕ → Holding)
             → IsSettled told self.old → IsSettled told self.new }
         ensures taken { HasTaken None self.old self.new }
@@ -368,7 +352,7 @@ impl Server {
         params: &Value,
         out: &mut Outbox,
     ) -> Result<(), AllocError>
-        requires on_time { self.old.late ≡ None }
+        requires on_time { self.old.late.keys ≡ [] }
         ensures settled { IsSettled (L.told_of loader.old) self.old
             → OnOk result (IsSettled (L.told_of loader.old) self.new) }
         ensures taken { OnOk result (HasTaken (if_running self.old.phase

@@ -1,6 +1,6 @@
 //! The language server over its streams: messages of an editor are read, and what is to be said is written.
 
-ghost use Rattle.std.specs.Prelude.{◌≡◌, ◌<◌, ◌≤◌, ◌-◌, ◌^◌, ℕ, List, [], map, Option, None, IfOk, OnOk, false};
+ghost use Rattle.std.specs.Prelude.{◌≡◌, ◌<◌, ◌≤◌, ◌-◌, ◌^◌, ℕ, List, [], map, Option, IfOk, OnOk, false};
 ghost use Rattle.serde_json.specs.Data.{Data};
 ghost use Rattle.serde_json.specs.View.{view};
 ghost use Rattle.idl_source.specs.devices.Device.{append, prepend};
@@ -65,7 +65,7 @@ fn answer_messages<L: PathLoader, S: Source, O: Sink>(
     requires reads { S.failures source.old < 2 ^ 64 - 1 }
     requires writes { O.failures output.old < 2 ^ 64 - 1 }
     requires settled { IsSettled (L.told_of loader.old) server.old }
-    requires on_time { server.old.late ≡ None }
+    requires on_time { server.old.late.keys ≡ [] }
     ensures well { OnOk result (O.failures output.new ≡ O.failures output.old) }
     ensures served { IfOk result (λ status. IsServed (L.told_of loader.old) server.old
         (S.remaining source.old) (O.written output.old) (O.written output.new) status) }
@@ -114,7 +114,7 @@ fn step_by<L: PathLoader>(
         → OnOk result (IsSettled (L.told_of loader.old) server.new) }
     ensures taken { OnOk result (TakesIn message.entry.0.now server.old server.new
         (said_by out.old) (said_by out.new)) }
-    ensures on_time { message.entry.1 ≡ false → OnOk result (server.new.late ≡ None) }
+    ensures on_time { message.entry.1 ≡ false → OnOk result (server.new.late.keys ≡ []) }
     ensures answered { IfOk result (λ outcome. (asked : Message)
         × IsMessageOf message.entry.0.now asked
         × IsAnswered asked server.old.phase server.new.phase
@@ -141,7 +141,7 @@ fn answer_message<L: PathLoader, O: Sink>(
     ensures stepped { IfOk result (λ outcome. (said : List Data) × (text : List ℕ)
         × HasStepped (L.told_of loader.old) message.entry.0.now server.old said server.new outcome
         × AreWritten said text × (O.written output.new ≡ append (O.written output.old) text)) }
-    ensures on_time { message.entry.1 ≡ false → OnOk result (server.new.late ≡ None) }
+    ensures on_time { message.entry.1 ≡ false → OnOk result (server.new.late.keys ≡ []) }
     ensures stays { L.told_of loader.new ≡ L.told_of loader.old }
 {
     let mut out = Outbox::new(server.workspace.session.allocator());

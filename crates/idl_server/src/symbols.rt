@@ -31,7 +31,7 @@ impl Workspace {
                 }
             }
         }
-        nested(alloc, &symbols)
+        nested(alloc, symbols)
     }
 }
 

@@ -2,7 +2,7 @@
 //!
 //! Documents keep texts beside the session's lines: positions are over the text, and two texts can have the same lines.
 //! After several changes told at once the text is put whole: a text between them may be over a limit. Of changes that
-//! wait one behind another the session gets the text after the last one, of one document at a time. Files that roots
+//! wait one behind another the session gets the text after the last one, of each document. Files that roots
 //! ask for are loaded before an open document is made a root, since until then it isn't known who asks for it. Where
 //! there are as many roots as there may be one is turned away, told once, and becomes a root when there is room. A name
 //! at a position is looked for by the columns of declared and used names. What is told of a file is kept as text, and

@@ -1,7 +1,5 @@
 //! The names that are declared in a document, each in the one around it.
 
-ghost use Rattle.std.specs.Prelude.{◌<◌, IfSome, length};
-
 use crate::change::Range;
 use crate::places::is_around;
 use crate::told::ranges::range_value;
@@ -21,36 +19,22 @@ pub struct DocumentSymbol<'d> {
     pub whole: Range,
 }
 
-/// These symbols, each in the one around it: of a symbol that is in another one, that comes before.
-pub fn nested(alloc: Global, symbols: &[DocumentSymbol<'_>]) -> Result<Value, AllocError> {
-    let mut inside: Vec<Vec<Value>> = Vec::with_capacity(alloc, symbols.len())?;
-    'symbols: for _symbol in symbols {
-        inside.push(Vec::new(alloc))?;
-    }
-    let mut outermost = Vec::new(alloc);
-    'backwards: while let Some(mut children) = inside.pop() {
-        let index = inside.len();
-        children.reverse();
-        let value = symbol_value(alloc, symbols[index], children)?;
-        match place_around(&symbols[..index], symbols[index]) {
-            Some(place) => inside[place].push(value)?,
-            None => outermost.push(value)?,
+/// These symbols in the order of the text, each in the one around it: of a symbol that is in another one, that comes before.
+pub fn nested(alloc: Global, mut symbols: Vec<DocumentSymbol<'_>>) -> Result<Value, AllocError> {
+    symbols.sort_by_key(|symbol| (symbol.name.start.line, symbol.name.start.column))?;
+    let mut outermost: Vec<(DocumentSymbol<'_>, Value)> = Vec::new(alloc);
+    'backwards: while let Some(symbol) = symbols.pop() {
+        let mut children = Vec::new(alloc);
+        'inside: while let Some((_inner, value)) = outermost.pop_if(|one| is_in(one.0, symbol)) {
+            children.push(value)?;
         }
+        outermost.push((symbol, symbol_value(alloc, symbol, children)?))?;
     }
-    outermost.reverse();
-    Ok(Value::Array(outermost))
-}
-
-// The place of the symbol that a symbol stands in, among these: the last such one.
-fn place_around(symbols: &[DocumentSymbol<'_>], symbol: DocumentSymbol<'_>) -> Option<usize>
-    ensures { IfSome result (λ place. place < length symbols.entry.now) }
-{
-    for place in (0..symbols.len()).rev() {
-        if is_in(symbol, symbols[place]) {
-            return Some(place);
-        }
+    let mut list = Vec::with_capacity(alloc, outermost.len())?;
+    'outermost: while let Some((_symbol, value)) = outermost.pop() {
+        list.push(value)?;
     }
-    None
+    Ok(Value::Array(list))
 }
 
 // Whether a symbol stands in another one: it does in the text, and its path is that one's and a name.

@@ -1,4 +1,4 @@
-use Rattle.std.proofs.Common.{◌≡◌, ◌∙◌, ℕ, List, [], None, Some, ap, not, refl, subst, sym, true}
+use Rattle.std.proofs.Common.{◌≡◌, ◌∙◌, ℕ, List, [], Some, ap, not, refl, subst, sym, true}
 use Rattle.idl_source.specs.devices.Device.{prepend}
 use Rattle.idl_editor.specs.frames.Reading.{IsNearer, Receives, fuel}
 use Rattle.idl_editor.specs.declared.frames.reader.Received.{Received}
@@ -33,7 +33,7 @@ messages-preserved g c =
     let one = c.in_ok-answer_message.ensures.stepped in
     let steps =
     stepped-as (g.L.PathLoader.told_of c.messages.loader) told c.as_slice.result.now body old new one.0 c.in_ok-answer_message.field-0 Goes inv.stays c.as_slice.ensures.value c.in-Goes.is one.2 in
-    let on_time : rest ≡ Some [] → new.late ≡ None = λ over.
+    let on_time : rest ≡ Some [] → new.late.keys ≡ [] = λ over.
     let empty : c.is_empty.result ≡ true = c.is_empty.ensures.1 (held-none c.received.new.reader (g.S.Source.remaining c.received.new.source) over) in
     c.in_ok-answer_message.ensures.on_time (ap not empty)
     in

@@ -18,7 +18,7 @@ returns-clause-settled c = λ told.
 pub returns-clause-first : goal.returns-clause-first
 returns-clause-first c = record {
   waits = refl;
-  on_time = refl;
+  on_time = c.new-late.ensures.empty;
   blank = record {
     documents = c.new-documents.ensures.empty;
     files = λ name. (λ i. finite.get (c.new-session.ensures i).project.inputs.files name) ∙ get-empty (slice_cmp nat_cmp) name;

@@ -1,4 +1,4 @@
-use Rattle.std.proofs.Common.{◌≡◌, ◌∙◌, Option, Some, ap, map, sym}
+use Rattle.std.proofs.Common.{◌≡◌, ◌∙◌, ℕ, true, List, Option, Some, ap, map, subst, sym}
 use Rattle.std.proofs.lemmas.Result.{on_ok_weaker}
 use Rattle.std.specs.Global.{Global}
 use Rattle.std.specs.Option.{option_map}
@@ -8,6 +8,8 @@ use Rattle.idl_editor.specs.declared.change.ContentChange.{ContentChange}
 use Rattle.idl_editor.specs.documents.Documents.{change_told}
 use Rattle.idl_editor.specs.messages.Said.{said_by}
 use Rattle.idl_server.specs.declared.server.Phase.TheVariants.{Waiting}
+use Rattle.idl_server.specs.Files.{IsWith}
+use Rattle.idl_server.proofs.HeldLemmas.{late-more, late-still}
 use Rattle.idl_server.proofs.LateLemmas.{changed-told, late-settled, taken-bad, taken-late}
 use Rattle.idl_server.proofs.PublishedLemmas.{none-published}
 use Rattle.idl_server.proofs.ServerLemmas.{settled-kept}
@@ -41,8 +43,13 @@ returns-clause-taken c =
     let changes = map change_told c.deref.result.now in
     let some = sym c.in_ok-changes.ensures ∙ ap (λ (o : Option (Vec ContentChange Global)). option_map (λ (list : Vec ContentChange Global). map change_told list.items) o) c.in-Some.is
     ∙ ap (λ items. Some (map change_told items)) (sym c.deref.ensures.value) in
+    let name = c.args.name.now in
+    let old = c.args.self.now in
+    let one = subst (λ (n : List ℕ). IsWith n true old.late.keys c.insert.new.self.keys) c.copied.ensures c.in_ok-insert.ensures.updates.0 in
+    let new = record old { late = c.insert.new.self; workspace = c.put_off.new.self } in
     on_ok_weaker c.put_off.result
-    (λ text. taken-late _ c.args.name.now changes c.args.self.now _ c.requires.alone (changed-told folders params c.args.name.now changes c.requires.change.0 some) c.put_off.ensures.stays text (c.requires.runs, ap Some c.copied.ensures)) c.put_off.ensures.text
+    (λ text. taken-late _ name changes old new (late-still name old new c.requires.runs c.requires.runs one) (changed-told folders params name changes c.requires.change.0 some) c.put_off.ensures.stays text
+    (late-more name old new c.requires.runs c.requires.runs one)) c.put_off.ensures.text
 
 pub returns-clause-published : goal.returns-clause-published
 returns-clause-published c = λ w. on_ok c.put_off.result (none-published w (said_by c.args.out.now))

@@ -56,7 +56,7 @@ returns-in_default-2-clause-taken g c =
     c.take_value.ensures.taken c.take_value.ensures.published
 
 pub returns-in_default-2-clause-on_time : goal.returns-in_default-2-clause-on_time
-returns-in_default-2-clause-on_time g c = on_ok c.take_value.result (c.take_value.ensures.late ∙ c.in_ok-catch_up-2.ensures.on_time)
+returns-in_default-2-clause-on_time g c = on_ok c.take_value.result ((λ i. (c.take_value.ensures.late i).keys) ∙ c.in_ok-catch_up-2.ensures.on_time)
 
 pub returns-in_default-2-clause-answered : goal.returns-in_default-2-clause-answered
 returns-in_default-2-clause-answered g c =
@@ -74,9 +74,6 @@ returns-in_default-2-clause-answered g c =
     )) c.take_value.ensures.answered
 
 -- ---- a change of it
-
-pub put_off-requires-clause-alone : goal.put_off-requires-clause-alone
-put_off-requires-clause-alone g c = inr (some_of c.in_ok-name.field-0 (c.in-Some-2.name, c.in-Some-2.params) _ c.in-Some-2.is c.in_ok-name.ensures).3
 
 pub returns-clause-settled : goal.returns-clause-settled
 returns-clause-settled g c = λ is. c.in_ok-catch_up-3.ensures.settled (c.in_ok-put_off.ensures.settled (g.L.PathLoader.told_of c.args.loader.now) is)

@@ -11,7 +11,7 @@ use Rattle.idl_loader.specs.Holding.{Holding}
 use Rattle.idl_server.specs.Messages.{IsRead, answered}
 use Rattle.idl_server.specs.Published.{ArePublished}
 use Rattle.idl_server.specs.Server.{HasTaken, IsSettled, if_running}
-use Rattle.idl_server.proofs.LateLemmas.{answered-on, change-answered, change-asks, change-caught, change-told, takes-before, takes-nothing, takes-on, takes-then, told-caught, unread-answered}
+use Rattle.idl_server.proofs.LateLemmas.{answered-on, change-answered, change-asks, change-told, takes-before, takes-nothing, takes-on, unread-answered}
 use Rattle.idl_server.proofs.NoticeLemmas.{told-json}
 use Rattle.idl_server.proofs.PublishedLemmas.{none-published}
 use Rattle.idl_server.proofs.ServingLemmas.{message-some}
@@ -72,16 +72,13 @@ returns-in_default-2-clause-answered g c =
           (c.in_ok-catch_up.ensures.answers ∙ ap answered read.1) some.2,
     )) c.take_value.ensures.answered
 
--- ---- a change of the document that is late
+-- ---- a change
 
-pub put_off-requires-clause-alone : goal.put_off-requires-clause-alone
-put_off-requires-clause-alone g c = inr (c.is_late.ensures c.if-is_late.true)
+pub returns-clause-settled : goal.returns-clause-settled
+returns-clause-settled g c = c.in_ok-put_off.ensures.settled (g.L.PathLoader.told_of c.args.loader.now)
 
-pub returns-then-is_late-clause-settled : goal.returns-then-is_late-clause-settled
-returns-then-is_late-clause-settled g c = c.in_ok-put_off.ensures.settled (g.L.PathLoader.told_of c.args.loader.now)
-
-pub returns-then-is_late-clause-taken : goal.returns-then-is_late-clause-taken
-returns-then-is_late-clause-taken g c =
+pub returns-clause-taken : goal.returns-clause-taken
+returns-clause-taken g c =
     let old = c.args.self.now in
     let new = c.put_off.new.self in
     let body = c.args.body.now in
@@ -93,50 +90,11 @@ returns-then-is_late-clause-taken g c =
     takes-before old new new body before after after (change-asks body (view c.in-Some.value) (view c.in-Some-2.params.now) old read.0 change.1) (subst (λ (t : Option Told). HasTaken t old new) (sym told) c.in_ok-put_off.ensures.taken) (inl refl)
     (inr (λ w. subst (λ (said : List Data). ArePublished w said after) read.1 (c.in_ok-put_off.ensures.published w))) (inr (λ w. none-published w after))
 
-pub returns-then-is_late-clause-answered : goal.returns-then-is_late-clause-answered
-returns-then-is_late-clause-answered g c =
-    let body = c.args.body.now in
-    let before = said_by c.args.out.now in
-    let read = subst (λ (found : Option Value). IsRead body found before (said_by c.value_of.new.out)) c.in-Some.is c.in_ok-value.ensures in
-    let change = some_of c.in_ok-name.field-0 (c.in-Some-2.name, c.in-Some-2.params) _ c.in-Some-2.is c.in_ok-name.ensures in
-    change-answered body (view c.in-Some.value) c.in-Some-2.params c.args.self.now.phase c.put_off.new.self.phase before (said_by c.put_off.new.out) read.0 change.1 change.0
-    c.put_off.ensures.phase (c.in_ok-put_off.ensures.answers ∙ ap answered read.1)
-
--- ---- a change of another one
-
-pub put_off-requires-2-clause-change : goal.put_off-requires-2-clause-change
-put_off-requires-2-clause-change g c = change-caught c.args.self.now c.catch_up-2.new.self c.in-Some-2.name (view c.in-Some-2.params.now) c.in_ok-catch_up-2.ensures.caught
-    (some_of c.in_ok-name.field-0 (c.in-Some-2.name, c.in-Some-2.params) _ c.in-Some-2.is c.in_ok-name.ensures).2
-
-pub put_off-requires-2-clause-runs : goal.put_off-requires-2-clause-runs
-put_off-requires-2-clause-runs g c = c.catch_up-2.ensures.phase ∙ (some_of c.in_ok-name.field-0 (c.in-Some-2.name, c.in-Some-2.params) _ c.in-Some-2.is c.in_ok-name.ensures).0
-
-pub put_off-requires-2-clause-alone : goal.put_off-requires-2-clause-alone
-put_off-requires-2-clause-alone g c = inl c.in_ok-catch_up-2.ensures.on_time
-
-pub returns-clause-settled : goal.returns-clause-settled
-returns-clause-settled g c = λ is. c.in_ok-put_off-2.ensures.settled (g.L.PathLoader.told_of c.args.loader.now) (c.in_ok-catch_up-2.ensures.settled is)
-
-pub returns-clause-taken : goal.returns-clause-taken
-returns-clause-taken g c =
-    let old = c.args.self.now in
-    let mid = c.catch_up-2.new.self in
-    let new = c.put_off-2.new.self in
-    let body = c.args.body.now in
-    let before = said_by c.args.out.now in
-    let between = said_by c.catch_up-2.new.out in
-    let read = subst (λ (found : Option Value). IsRead body found before (said_by c.value_of.new.out)) c.in-Some.is c.in_ok-value.ensures in
-    let change = some_of c.in_ok-name.field-0 (c.in-Some-2.name, c.in-Some-2.params) _ c.in-Some-2.is c.in_ok-name.ensures in
-    let caught = c.in_ok-catch_up-2.ensures.caught in
-    let told = change-told mid body (view c.in-Some.value) (view c.in-Some-2.params.now) read.0 change.1 (c.catch_up-2.ensures.phase ∙ change.0) in
-    takes-then old mid new body before between (said_by c.put_off-2.new.out) caught (change-asks body (view c.in-Some.value) (view c.in-Some-2.params.now) mid read.0 change.1) (subst (λ (t : Option Told). HasTaken t mid new) (sym told ∙ told-caught old mid body caught) c.in_ok-put_off-2.ensures.taken)
-    (inl (c.in_ok-catch_up-2.ensures.on_time, subst (λ (said : List Data). ArePublished mid.workspace said between) read.1 c.in_ok-catch_up-2.ensures.published)) (inr c.in_ok-put_off-2.ensures.published)
-
 pub returns-clause-answered : goal.returns-clause-answered
 returns-clause-answered g c =
     let body = c.args.body.now in
     let before = said_by c.args.out.now in
     let read = subst (λ (found : Option Value). IsRead body found before (said_by c.value_of.new.out)) c.in-Some.is c.in_ok-value.ensures in
     let change = some_of c.in_ok-name.field-0 (c.in-Some-2.name, c.in-Some-2.params) _ c.in-Some-2.is c.in_ok-name.ensures in
-    change-answered body (view c.in-Some.value) c.in-Some-2.params c.args.self.now.phase c.put_off-2.new.self.phase before (said_by c.put_off-2.new.out) read.0 change.1 change.0
-    (c.put_off-2.ensures.phase ∙ c.catch_up-2.ensures.phase) (c.in_ok-put_off-2.ensures.answers ∙ c.in_ok-catch_up-2.ensures.answers ∙ ap answered read.1)
+    change-answered body (view c.in-Some.value) c.in-Some-2.params c.args.self.now.phase c.put_off.new.self.phase before (said_by c.put_off.new.out) read.0 change.1 change.0
+    c.put_off.ensures.phase (c.in_ok-put_off.ensures.answers ∙ ap answered read.1)

@@ -6,9 +6,11 @@ use Rattle.idl_editor.specs.documents.Notices.{told_by_message, told_by_notice}
 use Rattle.idl_server.specs.Server.{HasTaken, if_running}
 use Rattle.idl_editor.specs.messages.Said.{said_by}
 use Rattle.idl_server.proofs.PublishedLemmas.{none-published}
-use Rattle.idl_server.proofs.NoticeLemmas.{none-running, params-given, told-notice, told-request, view-Null}
+use Rattle.idl_server.proofs.NoticeLemmas.{none-running, params-given, taken-same, told-notice, told-request, view-Null}
+use Rattle.idl_server.proofs.ServingLemmas.{answered-null, ends-told}
 use Rattle.std.proofs.lemmas.List.{append-nil}
-use Rattle.idl_editor.specs.declared.messages.message.Message.TheVariants.{Answer, Notice, Request}
+use Rattle.idl_editor.specs.declared.messages.message.Message.TheVariants.{Answer, Invalid, Notice, Request}
+use Rattle.idl_editor.specs.declared.messages.answer.ErrorCode.TheVariants.{NoMessage}
 use Rattle.idl_server.specs.Messages.{answered}
 use Rattle.idl_server.proofs.server.Server.take_value.Goals as goal
 
@@ -52,6 +54,31 @@ returns-in-Goes g c =
       stays = c.take_notice.ensures.stays;
     }
 
+-- one that ends the server
+pub returns-in-Notice : goal.returns-in-Notice
+returns-in-Notice g c =
+    let server = c.args.self.now in
+    let json = view c.args.value.now in
+    let folders = server.workspace.folders in
+    let method = c.in-Notice.method in
+    let told : if_running server.phase (told_by_message folders json) ≡ None =
+    ap (if_running server.phase)
+    (told-notice folders json method (seen c.in-Notice.params) c.in-Notice.ensures.0 c.in-Notice.ensures.1 c.in-Notice.ensures.2
+    ∙ ends-told folders server.phase method _ (λ goes. c.in_default.not-Goes (c.outcome_by.ensures ∙ goes)))
+    ∙ none-running server.phase in
+    record {
+      settled = λ is. is;
+      taken = taken-same _ server told;
+      published = none-published server.workspace (said_by c.args.out.now);
+      answered = (
+        Notice method c.in-Notice.params,
+        c.in-Notice.ensures,
+        record { answers = sym (append-nil (answered (said_by c.args.out.now))); led = refl; ends = cc },
+      );
+      late = refl;
+      stays = refl;
+    }
+
 pub returns-in-Answer-clause-published : goal.returns-in-Answer-clause-published
 returns-in-Answer-clause-published g c =
     none-published c.args.self.now.workspace (said_by c.args.out.now)
@@ -66,3 +93,10 @@ returns-in-Request-clause-answered g c = (
 pub returns-in-Answer-clause-answered : goal.returns-in-Answer-clause-answered
 returns-in-Answer-clause-answered g c =
     (Answer, c.in-Answer.ensures, record { answers = sym (append-nil (answered (said_by c.args.out.now))); led = refl; ends = refl })
+
+pub returns-clause-answered : goal.returns-clause-answered
+returns-clause-answered g c = (
+  Invalid,
+  c.in-Invalid.ensures,
+  record { answers = answered-null (said_by c.args.out.now) (said_by c.refuse.new.self) _ NoMessage view-Null c.in_ok-refuse-in-Invalid.ensures; led = refl; ends = refl },
+)

@@ -13,8 +13,13 @@ returns-clause-filed c = λ told was.
     let is = sym c.in-Some.ensures.value in
     let after = c.in_ok-after.after in
     on_ok_weaker c.splice.result (λ (all : (t : List ℕ → Holding) → IsFiled t c.splice.new.self c.args.name.now). all told)
-    (c.splice.ensures.filed _ (cut_lines d.text.items) (c.set_text.ensures.there d is) (was.opened d is c.if-not-document.true)
-    (subst (λ (t : List ℕ). IsSplice (cut_lines t) after.splice (cut_lines after.text.items)) c.deref.ensures.value c.in_ok-after.ensures.lines))
+    (c.splice.ensures.filed (record {
+      document = _;
+      lines = cut_lines d.text.items;
+      opened = c.set_text.ensures.there d is;
+      there = was.opened d is c.if-not-document.true;
+      splices = subst (λ (t : List ℕ). IsSplice (cut_lines t) after.splice (cut_lines after.text.items)) c.deref.ensures.value c.in_ok-after.ensures.lines;
+    }))
 
 pub returns-2-clause-filed : goal.returns-2-clause-filed
 returns-2-clause-filed c = λ told was.

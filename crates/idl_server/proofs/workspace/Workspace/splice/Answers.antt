@@ -20,7 +20,7 @@ returns-in-Ok-clause-beside c =
     (beside-kept name new (record new { touched = c.keep_all.new.kept }) (record { encoding = refl; folders = refl; session = refl; documents = refl; tried = refl; unread = refl })))
 
 pub returns-in-Ok-clause-filed : goal.returns-in-Ok-clause-filed
-returns-in-Ok-clause-filed c = λ document lines is there splices.
+returns-in-Ok-clause-filed c = λ made_text.
     let name = c.args.name.now in
     let old = c.args.self.now in
     let splice = c.args.splice in
@@ -28,10 +28,10 @@ returns-in-Ok-clause-filed c = λ document lines is there splices.
     let made = subst (λ (n : List ℕ). after old.session.project (Splice n splice.span.from splice.span.del splice.lines.items) ≡ Ok new.session.project) c.as_bytes.ensures.bytes c.in-Ok.ensures.project in
     on_ok c.keep_all.result (λ told.
     filed-kept told name new (record new { touched = c.keep_all.new.kept }) (record { encoding = refl; folders = refl; session = refl; documents = refl; tried = refl; unread = refl })
-    (filed-open told new name _ (c.set_behind.ensures.there document is)
+    (filed-open told new name _ (c.set_behind.ensures.there made_text.document made_text.opened)
     (λ now.
-    splice-lines name lines splice.span.from splice.span.del splice.lines.items old.session.project new.session.project there made
-    ∙ ap (λ (l : List (List ℕ)). Some l) splices.gives)))
+    splice-lines name made_text.lines splice.span.from splice.span.del splice.lines.items old.session.project new.session.project made_text.there made
+    ∙ ap (λ (l : List (List ℕ)). Some l) made_text.splices.gives)))
 
 pub returns-in-Err-clause-beside : goal.returns-in-Err-clause-beside
 returns-in-Err-clause-beside c =
@@ -39,7 +39,7 @@ returns-in-Err-clause-beside c =
     subst (λ (s : State). OnOk c.put_whole.result (StaysBeside c.args.name.now (record old { session = s }) c.put_whole.new.self)) c.in-Err.ensures.unchanged c.put_whole.ensures.beside
 
 pub returns-in-Err-clause-filed : goal.returns-in-Err-clause-filed
-returns-in-Err-clause-filed c = λ document lines is there splices. c.put_whole.ensures.filed c.requires
+returns-in-Err-clause-filed c = λ made_text. c.put_whole.ensures.filed c.requires
 
 pub returns-in-Err-clause-held : goal.returns-in-Err-clause-held
 returns-in-Err-clause-held c =
